@@ -1,0 +1,67 @@
+use mathlib.Core.Path.{refl}
+use native.Mathlib.Omega.{arith}
+use Rattle.words.proofs.Puts.{four-puts}
+use borrow.Author.Needs.{needs}
+use Rattle.words.proofs.put4_u64.Statement.{statement}
+use Rattle.words.proofs.put4_u64.Tie as tie
+use Rattle.words.proofs.put4_u64.Reads as reads
+use Rattle.words.proofs.put4_u64.Lts as lts
+use Rattle.words.proofs.put_u64.Reads as put-u64-reads
+
+-- src/lib.rt:77:5
+put-u64-requires : tie.Need-put-u64-requires
+put-u64-requires c κs = search needs
+
+-- src/lib.rt:78:16
+add-put-u64 : tie.Need-add-put-u64
+add-put-u64 c = search needs
+
+-- src/lib.rt:78:5
+put-u64-requires-2 : tie.Need-put-u64-requires-2
+put-u64-requires-2 c κs = search needs
+
+-- src/lib.rt:79:16
+add-put-u64-2 : tie.Need-add-put-u64-2
+add-put-u64-2 c = search needs
+
+-- src/lib.rt:79:5
+put-u64-requires-3 : tie.Need-put-u64-requires-3
+put-u64-requires-3 c κs = search needs
+
+-- src/lib.rt:80:16
+add-put-u64-3 : tie.Need-add-put-u64-3
+add-put-u64-3 c = search needs
+
+-- src/lib.rt:80:5
+put-u64-requires-4 : tie.Need-put-u64-requires-4
+put-u64-requires-4 c κs = search needs
+
+-- src/lib.rt:73:1
+same-length : tie.Need-same-length
+same-length c = search needs
+
+-- src/lib.rt:73:1
+returns : tie.Need-returns
+returns c =
+    let c4 = c .before .before in
+    let c3 = c4 .before .before .before .before in
+    let c2 = c3 .before .before .before .before in
+    let c1 = c2 .before .before .before .before in
+    let e = c1 .before .before .before in
+    let a = e .args in
+    four-puts 8 (a .s .now) (a .at) (a .a) (a .b) (a .c) (a .d) _ _ _ (omega (arith, e .pre))
+    (c1 .put-u64 .ensures) (c2 .put-u642 .ensures) (c3 .put-u643 .ensures) (c4 .put-u644 .ensures) refl refl refl
+
+pub put4-u64-spec : {M : Type 1} → statement M
+put4-u64-spec =
+    tie.close
+    (tie.spec
+    put-u64-requires
+    add-put-u64
+    put-u64-requires-2
+    add-put-u64-2
+    put-u64-requires-3
+    add-put-u64-3
+    put-u64-requires-4
+    same-length
+    returns)
