@@ -12,9 +12,9 @@ use Rattle.span.specs.declared.ids.OptId.{OptId}
 use Rattle.span.specs.declared.ids.OptId.the-variants.{Nothing, At}
 use Rattle.span.specs.declared.span.FugueSpan.{FugueSpan}
 use Rattle.span.specs.Ids.{incId, roomOf}
-use Rattle.span.specs.IdsLaws.{Room, roomy}
+use Rattle.span.proofs.IdsLaws.{Room, roomy}
 use Rattle.span.specs.Span.{lenSpan, spanCode}
-use Rattle.span.specs.SpanLaws.{SpanOk, span-ok}
+use Rattle.span.proofs.SpanLaws.{SpanOk, span-ok}
 use Rattle.span.specs.Units.{unitsOf, expand}
 use Rattle.store.specs.Row.{rows, rowAt}
 use Rattle.rope.specs.declared.Offset.{Offset}

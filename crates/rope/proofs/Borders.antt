@@ -11,11 +11,11 @@ use Rattle.span.specs.declared.ids.OptId.the-variants.{Nothing, At}
 use Rattle.span.specs.declared.span.FugueSpan.{FugueSpan}
 use Rattle.span.specs.Ids.{incId}
 use Rattle.span.specs.Span.{lenSpan, spanCode, shift, leftOf, partSpan, joinsSpan, mergedSpan}
-use Rattle.span.specs.SpanLaws.{JoinOk}
-use Rattle.span.specs.UnitLaws.{merge-units, join-to, part-ok, part-length}
+use Rattle.span.proofs.SpanLaws.{JoinOk}
+use Rattle.span.proofs.UnitLaws.{merge-units, join-to, part-ok, part-length}
 use Rattle.span.specs.Units.{unitsOf, expand, Apart, Joined, join}
-use Rattle.span.specs.Unique.{in-range, merged-ok, apart-merged, apart-cut, cut-units}
-use Rattle.span.specs.ForRope.{expand-append, joined-is}
+use Rattle.span.proofs.Unique.{in-range, merged-ok, apart-merged, apart-cut, cut-units}
+use Rattle.span.proofs.ForRope.{expand-append, joined-is}
 use Rattle.store.specs.Row.{rows, rowAt}
 use Rattle.store.proofs.Laws.{length-rows}
 use Rattle.rope.specs.Spans.{AllOk, bordered, Border}

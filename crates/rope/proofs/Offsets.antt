@@ -15,10 +15,10 @@ use Rattle.span.specs.declared.span.FugueSpan.{FugueSpan}
 use Rattle.span.specs.declared.status.Counter.the-variants as C
 use Rattle.span.specs.Status.{counterOf, eqZ}
 use Rattle.span.specs.Ids.{incId, sameId, sameOpt, roomOf}
-use Rattle.span.specs.IdsLaws.{Room, roomy, inc-zero}
-use Rattle.span.specs.Same.{sameOpt-true, sameOpt-refl, sameId-refl}
+use Rattle.span.proofs.IdsLaws.{Room, roomy, inc-zero}
+use Rattle.span.proofs.Same.{sameOpt-true, sameOpt-refl, sameId-refl}
 use Rattle.span.specs.Span.{lenSpan, spanCode, shift, leftOf, partSpan}
-use Rattle.span.specs.SpanLaws.{SpanOk, span-ok}
+use Rattle.span.proofs.SpanLaws.{SpanOk, span-ok}
 use Rattle.span.specs.Units.{tab, unitAt, unitsOf}
 use Rattle.rope.specs.declared.Offset.{Offset}
 use Rattle.rope.specs.declared.Offset.the-variants as Off

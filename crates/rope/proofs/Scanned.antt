@@ -12,14 +12,14 @@ use Rattle.span.specs.declared.ids.OptId.the-variants.{Nothing, At}
 use Rattle.span.specs.declared.span.FugueSpan.{FugueSpan}
 use Rattle.span.specs.declared.status.Status.{Status}
 use Rattle.span.specs.Ids.{incId, sameOpt}
-use Rattle.span.specs.IdsLaws.{inc-zero}
-use Rattle.span.specs.Same.{sameOpt-true, sameOpt-refl}
+use Rattle.span.proofs.IdsLaws.{inc-zero}
+use Rattle.span.proofs.Same.{sameOpt-true, sameOpt-refl}
 use Rattle.span.specs.Span.{lenSpan, spanCode, shift, leftOf}
-use Rattle.span.specs.SpanLaws.{SpanOk, span-ok}
-use Rattle.span.specs.Views.{len-pos}
+use Rattle.span.proofs.SpanLaws.{SpanOk, span-ok}
+use Rattle.span.proofs.Views.{len-pos}
 use Rattle.span.specs.Units.{tab, unitAt, unitsOf, expand}
-use Rattle.span.specs.ListLaws.{tab-add}
-use Rattle.span.specs.ForRope.{units-length, expand-append}
+use Rattle.span.proofs.ListLaws.{tab-add}
+use Rattle.span.proofs.ForRope.{units-length, expand-append}
 use Rattle.rope.specs.declared.Verdict.{Verdict}
 use Rattle.rope.specs.declared.Verdict.the-variants.{Stop, Hold, Clear, Keep}
 use Rattle.rope.specs.Place.{memId, sibling, verdict, isStop, after, run, upTo, firstPast, Distinct}

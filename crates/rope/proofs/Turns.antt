@@ -12,7 +12,7 @@ use Rattle.span.specs.declared.span.FugueSpan.{FugueSpan}
 use Rattle.span.specs.Ids.{sameOpt}
 use Rattle.span.specs.Span.{lenSpan, spanCode}
 use Rattle.span.specs.Units.{unitsOf, expand}
-use Rattle.span.specs.ForRope.{expand-append}
+use Rattle.span.proofs.ForRope.{expand-append}
 use Rattle.store.specs.Row.{rows, rowAt}
 use Rattle.rope.specs.declared.Verdict.{Verdict}
 use Rattle.rope.specs.declared.Verdict.the-variants.{Stop, Hold, Clear, Keep}

@@ -10,11 +10,11 @@ use Rattle.span.specs.declared.ids.OptId.{OptId}
 use Rattle.span.specs.declared.ids.OptId.the-variants.{Nothing, At}
 use Rattle.span.specs.declared.span.FugueSpan.{FugueSpan}
 use Rattle.span.specs.Ids.{incId, sameOpt}
-use Rattle.span.specs.Same.{sameOpt-refl}
+use Rattle.span.proofs.Same.{sameOpt-refl}
 use Rattle.span.specs.Span.{lenSpan, spanCode}
-use Rattle.span.specs.SpanLaws.{SpanOk, span-ok}
+use Rattle.span.proofs.SpanLaws.{SpanOk, span-ok}
 use Rattle.span.specs.Units.{tab, unitAt, unitsOf, expand}
-use Rattle.span.specs.ForRope.{expand-append}
+use Rattle.span.proofs.ForRope.{expand-append}
 use Rattle.store.specs.Row.{rows, rowAt}
 use Rattle.rope.specs.declared.Offset.{Offset}
 use Rattle.rope.specs.declared.Offset.the-variants as Off
