@@ -1,0 +1,4 @@
+pub mod Order
+pub mod Keys
+pub mod Hang
+pub mod ScanPlace
