@@ -2,3 +2,8 @@ pub mod Order
 pub mod Keys
 pub mod Hang
 pub mod ScanPlace
+pub mod Tests
+pub mod Insert
+pub mod Grow
+pub mod Range
+pub mod InsertGood
