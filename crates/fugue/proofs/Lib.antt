@@ -7,3 +7,5 @@ pub mod Insert
 pub mod Grow
 pub mod Range
 pub mod InsertGood
+pub mod Walk
+pub mod Past
