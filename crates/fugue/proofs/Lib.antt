@@ -9,3 +9,4 @@ pub mod Range
 pub mod InsertGood
 pub mod Walk
 pub mod Past
+pub mod Sorts
