@@ -10,3 +10,6 @@ pub mod InsertGood
 pub mod Walk
 pub mod Past
 pub mod Sorts
+pub mod Alike
+pub mod NewKeys
+pub mod Splices
