@@ -4,7 +4,8 @@ ghost use mathlib.Core.List.{[]};
 ghost use Prim.Native.Nat.{_+_, _*_, _≤_, _<_};
 ghost use lib.ListN.{length, drop};
 ghost use Rattle.store.specs.Row.{rows};
-ghost use Rattle.rope.specs.Spans.{apartRows, touching, joinedRows};
+ghost use Rattle.rope.specs.Spans.{apartRows};
+ghost use Rattle.rope.specs.Store.{touching, joinedRows};
 use crate::find::holds;
 use span::span::FugueSpan;
 
