@@ -17,8 +17,8 @@ use Rattle.span.specs.Span.{lenSpan, spanCode}
 use Rattle.span.proofs.SpanLaws.{SpanOk, span-ok}
 use Rattle.span.specs.Units.{unitsOf, expand}
 use Rattle.store.specs.Row.{rows, rowAt}
-use Rattle.rope.specs.declared.Offset.{Offset}
-use Rattle.rope.specs.declared.Offset.the-variants as Off
+use Rattle.rope.specs.declared.find.Offset.{Offset}
+use Rattle.rope.specs.declared.find.Offset.the-variants as Off
 use Rattle.rope.specs.Place.{memId}
 use Rattle.rope.specs.Spans.{offsetOf, isAt, covered, AllOk, Fresh, meetsSpan, holdsAny}
 use Rattle.rope.proofs.Offsets.{off-unit, unit-off, covers-units}

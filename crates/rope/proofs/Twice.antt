@@ -16,8 +16,8 @@ use Rattle.span.proofs.SpanLaws.{SpanOk, span-ok}
 use Rattle.span.specs.Units.{tab, unitAt, unitsOf, expand}
 use Rattle.span.proofs.ForRope.{expand-append}
 use Rattle.store.specs.Row.{rows, rowAt}
-use Rattle.rope.specs.declared.Offset.{Offset}
-use Rattle.rope.specs.declared.Offset.the-variants as Off
+use Rattle.rope.specs.declared.find.Offset.{Offset}
+use Rattle.rope.specs.declared.find.Offset.the-variants as Off
 use Rattle.rope.specs.Place.{memId, Distinct}
 use Rattle.rope.specs.Spans.{offsetOf, covered, AllOk, Fresh, holdsAny, apartRows}
 use Rattle.rope.proofs.Offsets.{unit-id, unit-off, not-unit, inc-ne}
