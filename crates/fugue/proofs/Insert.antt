@@ -12,8 +12,8 @@ use Rattle.span.specs.declared.ids.OptId.{OptId}
 use Rattle.span.specs.declared.ids.OptId.the-variants.{Nothing, At}
 use Rattle.span.specs.declared.span.FugueSpan.{FugueSpan}
 use Rattle.span.specs.Ids.{sameOpt}
-use Rattle.rope.specs.declared.Verdict.{Verdict}
-use Rattle.rope.specs.declared.Verdict.the-variants.{Stop, Hold, Clear, Keep}
+use Rattle.rope.specs.declared.place.Verdict.{Verdict}
+use Rattle.rope.specs.declared.place.Verdict.the-variants.{Stop, Hold, Clear, Keep}
 use Rattle.rope.specs.Place.{memId, hasOl, posOf, prPos, parentRight, byPos, sibling, verdict}
 use Rattle.fugue.specs.Tree.{ref, ol, or, prOf}
 use Rattle.fugue.proofs.Order.{Tri, tlt, teq, tgt}

@@ -11,7 +11,7 @@ use Rattle.span.specs.declared.ids.OptId.the-variants.{Nothing, At}
 use Rattle.span.specs.declared.span.FugueSpan.{FugueSpan}
 use Rattle.span.specs.Ids.{sameOpt}
 use Rattle.span.specs.Status.{activated}
-use Rattle.rope.specs.declared.Verdict.{Verdict}
+use Rattle.rope.specs.declared.place.Verdict.{Verdict}
 use Rattle.rope.specs.Place.{hasOl, prPos, parentRight, verdict, run, upTo, firstPast, front, behind, lastId, putAt, scanPlace}
 use Rattle.fugue.specs.Tree.{ref, ol, or, prOf}
 use Rattle.fugue.proofs.Order.{Tri, tlt, teq, tgt, Older, older-no}
