@@ -1,6 +1,6 @@
 -- For claims that compute: `unfolding historyOpen` opens every definition that the history's calls are made of. Assumes nothing.
 use Rattle.rope.specs.Open.{ropeOpen}
-use Rattle.fugue.specs.Tree.{prOf, isNone, leftKid, rightKid, keepIf, walkEach, walkList, walk, idBefore, byId, sortId}
+use Rattle.fugue.specs.Tree.{prOf, isNone, leftKid, rightKid, walkEach, walkList, walk, idBefore, byId, sortId}
 use Rattle.history.specs.Edit.{sizeOf}
 use Rattle.history.specs.Version.{countOf, below, inVersion, heldCount, above, rising, isHeld, named, within, closedFor, closed, versionCode}
 use Rattle.history.specs.Checkout.{inRange, inRanges, rangeOn, rangesOf, deletesIn, statusAt, unitAt, unitsAt, checkout, unitBetween, unitsBetween}
@@ -12,5 +12,5 @@ use Rattle.history.specs.Valid.{hasPeer, peerCount, ownCount, editCode, 
 use Rattle.history.specs.Codes.{onUnits, stored, openCode, inside, made, arrivalFits, arriveCode, arriveOf, checkoutCode, checkoutOf, deltaCode, deltaOf, askCode}
 
 unfoldable pub historyOpen : Unit {0}
-unfolding ropeOpen prOf isNone leftKid rightKid keepIf walkEach walkList walk idBefore byId sortId sizeOf countOf below inVersion heldCount above rising isHeld named within closedFor closed versionCode inRange inRanges rangeOn rangesOf deletesIn statusAt unitAt unitsAt checkout unitBetween unitsBetween start actList actTook hold arrive replay hung treeList treeArrive treeReplay rank byRank sortRank treeOf spansBetween delta items itemAt itemsOf applied entryFormed lamportFits entryIds entryKnown used itemFormed itemIds itemSingle applyCode applyOf hasPeer peerCount ownCount editCode editsFit editUnits sameUnit sameUnits sameRanges total rangesIn targetsFit targetList valid onUnits stored openCode inside made arrivalFits arriveCode arriveOf checkoutCode checkoutOf deltaCode deltaOf askCode
+unfolding ropeOpen prOf isNone leftKid rightKid walkEach walkList walk idBefore byId sortId sizeOf countOf below inVersion heldCount above rising isHeld named within closedFor closed versionCode inRange inRanges rangeOn rangesOf deletesIn statusAt unitAt unitsAt checkout unitBetween unitsBetween start actList actTook hold arrive replay hung treeList treeArrive treeReplay rank byRank sortRank treeOf spansBetween delta items itemAt itemsOf applied entryFormed lamportFits entryIds entryKnown used itemFormed itemIds itemSingle applyCode applyOf hasPeer peerCount ownCount editCode editsFit editUnits sameUnit sameUnits sameRanges total rangesIn targetsFit targetList valid onUnits stored openCode inside made arrivalFits arriveCode arriveOf checkoutCode checkoutOf deltaCode deltaOf askCode
 historyOpen = tt

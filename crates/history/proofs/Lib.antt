@@ -1,0 +1,5 @@
+pub mod Plain
+pub mod Context
+pub mod Run
+pub mod Stable
+pub mod Arrive
