@@ -3,3 +3,4 @@ pub mod Context
 pub mod Run
 pub mod Stable
 pub mod Arrive
+pub mod Compare
