@@ -4,3 +4,4 @@ pub mod Run
 pub mod Stable
 pub mod Arrive
 pub mod Compare
+pub mod Start
