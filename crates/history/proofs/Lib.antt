@@ -5,3 +5,4 @@ pub mod Stable
 pub mod Arrive
 pub mod Compare
 pub mod Start
+pub mod Converge
