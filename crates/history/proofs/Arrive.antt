@@ -40,7 +40,8 @@ use Rattle.history.specs.Checkout.{unitsAt}
 use Rattle.history.specs.Checkout as Co
 use Rattle.history.specs.Arrive.{actList, actTook, tookBy, hold, arrive}
 use Rattle.history.specs.Codes.{inside}
-use Rattle.history.proofs.Plain.{realPlain, plain, plain-same, plain-at, at-same, view, sees}
+use Rattle.history.specs.Demand.{realPlain}
+use Rattle.history.proofs.Plain.{plain, plain-same, plain-at, at-same, view, sees}
 use Rattle.history.proofs.Context.{count, holds, clock, Known, before, known-or, holds-known, count-known, before-known, before-unknown, Natural, natural-inc, not-below}
 use Rattle.history.proofs.Run.{MemE, MemH, num, first, spanOf, Made, made-id, made-peer, Src, Run, inside-at, unit-natural, bound, context-closed}
 use Rattle.history.proofs.Stable.{plain-list-at, view-list, plain-alike, plain-mem, Real, plain-deletes, view-skip, view-splice, shown-sees, left-sees, right-sees, took-sees, inside-sees}

@@ -24,10 +24,7 @@ use Rattle.history.specs.Edit.{Version, Held, History}
 use Rattle.history.specs.Version.{inVersion}
 use Rattle.history.specs.Checkout.{deletesIn, statusAt, unitsAt}
 use Rattle.history.specs.Checkout as Co
-
--- the real id, but for a placeholder unit
-unfoldable pub realPlain : FugueSpan → OptId
-realPlain u = cond (eqb (u .id .peer) UNKNOWN-PEER) Nothing (u .«real_id»)
+use Rattle.history.specs.Demand.{realPlain, noReal}
 
 unfoldable pub plain : FugueSpan → FugueSpan
 plain u = withState u (status false (pos 0)) Opt.Nothing (realPlain u)
@@ -150,9 +147,6 @@ module _ (f : FugueSpan → FugueSpan) (k : Reads f) where
     ∙ ids-map (firstShown (behind l n) m)
 
 -- ---- a unit without a placeholder's real id
-
-unfoldable pub noReal : FugueSpan → FugueSpan
-noReal u = withState u (u .status) (u .«diff_status») (realPlain u)
 
 pub noReal-reads : Reads noReal
 unfolding noReal withState

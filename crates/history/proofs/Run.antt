@@ -38,7 +38,8 @@ use Rattle.history.specs.Checkout.{statusAt, unitsAt}
 use Rattle.history.specs.Checkout as Co
 use Rattle.history.specs.Arrive.{actTook}
 use Rattle.history.specs.Codes.{inside}
-use Rattle.history.proofs.Plain.{plain, view, sees, realPlain}
+use Rattle.history.specs.Demand.{realPlain}
+use Rattle.history.proofs.Plain.{plain, view, sees}
 use Rattle.history.proofs.Context.{count, holds, clock, Known, before, holds-known, before-known, before-unknown, known-or, count-unknown, Natural, natural-inc, past-of, in-past}
 
 abbrev pub MemE : Edit → List Edit → Type 0

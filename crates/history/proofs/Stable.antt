@@ -31,7 +31,8 @@ use Rattle.history.specs.Checkout.{inRanges, rangesOf, deletesIn, status
 use Rattle.history.specs.Checkout as Co
 use Rattle.history.specs.Arrive.{actTook}
 use Rattle.history.specs.Codes.{inside}
-use Rattle.history.proofs.Plain.{realPlain, plain, plain-same, plain-at, view, view-plain, sees, noReal, noReal-reads, view-at, shown-map, past-map, originLeft-map, originRight-map, taken-map}
+use Rattle.history.specs.Demand.{realPlain, noReal}
+use Rattle.history.proofs.Plain.{plain, plain-same, plain-at, view, view-plain, sees, noReal-reads, view-at, shown-map, past-map, originLeft-map, originRight-map, taken-map}
 use Rattle.history.proofs.Context.{Natural, future-of}
 
 -- ---- lists

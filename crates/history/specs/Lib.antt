@@ -9,3 +9,4 @@ pub mod Valid
 pub mod Codes
 pub mod Open
 pub mod Rows
+pub mod Demand
