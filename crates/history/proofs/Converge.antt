@@ -30,6 +30,7 @@ use Rattle.history.specs.Checkout as Co
 use Rattle.history.specs.Arrive.{actList, listAfter, hold, arrive, replay}
 use Rattle.history.specs.Tree.{hung, treeList, treeArrive, treeReplay}
 use Rattle.history.specs.Codes.{inside}
+use Rattle.history.specs.Demand.{Inside}
 use Rattle.history.proofs.Plain.{view, view-same, at-same, sees}
 use Rattle.history.proofs.Context.{count, clock, Known, Natural, past-of, before-known, holds-known}
 use Rattle.history.proofs.Run.{MemE, num, first, Made, made-peer, made-num, made-small, Src, Run, bound, unit-natural}
@@ -148,15 +149,10 @@ scan-is-walk n (e ∷ es) done h key r a =
   let t : (k : OptId → Key) × Run n (e ∷ done) (arrive h e) k = run-arrive n done h key r e (a .0) in
   ap (λ (z : History). treeReplay z es) (tree-arrive n done h e (t .0) (t .1)) ∙ scan-is-walk n es (e ∷ done) (arrive h e) (t .0) (t .1) (a .1)
 
--- every position is inside what is visible at its context, edit by edit, as the tree alone has it
-unfoldable pub InsideTree : History → List Edit → Type 0
-InsideTree h [] = Unit {0}
-InsideTree h (e ∷ es) = (inside (e .act) (e .at) (unitsAt (e .context) h) ≡ true) × InsideTree (treeArrive h e) es
-
-pub arrives-of : (n : ℕ) (E es done : List Edit) (h : History) (key : OptId → Key) → Run n done h key → Order (clock n) E done es → ((e : Edit) → MemE e es → Sound e) → InsideTree h es → Arrives n done h es
-unfolding Order InsideTree Arrives
+pub arrives-of : (n : ℕ) (E es done : List Edit) (h : History) (key : OptId → Key) → Run n done h key → Order (clock n) E done es → ((e : Edit) → MemE e es → Sound e) → Inside h es → Arrives n done h es
+unfolding Order Inside Arrives
 arrives-of n E [] done h key r o sound i = tt
 arrives-of n E (e ∷ es) done h key r o sound i =
   let acc : Arriving n done h e = record { known = sound e (List·Memᴰ·head refl) .0; natural = sound e (List·Memᴰ·head refl) .1; fits = o .0; some = o .1; inside = i .0 } in
   let t : (k : OptId → Key) × Run n (e ∷ done) (arrive h e) k = run-arrive n done h key r e acc in
-  (acc, arrives-of n E es (e ∷ done) (arrive h e) (t .0) (t .1) (o .3) (λ (f : Edit) (m : MemE f es). sound f (List·Memᴰ·tail m)) (subst (λ (z : History). InsideTree z es) (tree-arrive n done h e (t .0) (t .1)) (i .1)))
+  (acc, arrives-of n E es (e ∷ done) (arrive h e) (t .0) (t .1) (o .3) (λ (f : Edit) (m : MemE f es). sound f (List·Memᴰ·tail m)) (subst (λ (z : History). Inside z es) (tree-arrive n done h e (t .0) (t .1)) (i .1)))

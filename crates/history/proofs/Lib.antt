@@ -6,3 +6,5 @@ pub mod Arrive
 pub mod Compare
 pub mod Start
 pub mod Converge
+pub mod Ranks
+pub mod Sets
