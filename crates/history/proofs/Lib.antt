@@ -8,3 +8,4 @@ pub mod Start
 pub mod Converge
 pub mod Ranks
 pub mod Sets
+pub mod OnUnits

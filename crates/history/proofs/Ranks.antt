@@ -83,10 +83,10 @@ byRank-sorted G e (f ∷ l) s = go (ltb-test (rank G f) (rank G e)) (byRank-sort
     go (pass d h) ih = subst R (sym d) (λ (w : Edit) (m : InSet w (byRank G e l)). low h w (byRank-from G e l w m), ih)
     go (fail d h) ih = subst R (sym d) (λ (w : Edit) (m : InSet w (f ∷ l)). high h w (List·Memᴰ·cases-cons m), s)
 
-byRank-nodup : (G : List Edit) (e : Edit) (l : List Edit) → Once l → ((f : Edit) → InSet f l → f ≡ e → ⊥) → Once (byRank G e l)
+byRank-once : (G : List Edit) (e : Edit) (l : List Edit) → Once l → ((f : Edit) → InSet f l → f ≡ e → ⊥) → Once (byRank G e l)
 unfolding byRank
-byRank-nodup G e [] s n = (λ (w : Edit) (m : InSet w []). absurd (List·Memᴰ·not-nil m), tt)
-byRank-nodup G e (f ∷ l) s n = go (ltb (rank G f) (rank G e)) (byRank-nodup G e l (s .1) (λ (w : Edit) (m : InSet w l). n w (List·Memᴰ·tail m)))
+byRank-once G e [] s n = (λ (w : Edit) (m : InSet w []). absurd (List·Memᴰ·not-nil m), tt)
+byRank-once G e (f ∷ l) s n = go (ltb (rank G f) (rank G e)) (byRank-once G e l (s .1) (λ (w : Edit) (m : InSet w l). n w (List·Memᴰ·tail m)))
   where
     no : (w : Edit) → (w ≡ e) ⊎ InSet w l → w ≡ f → ⊥
     no w (inl d) k = n f (List·Memᴰ·head refl) (sym k ∙ d)
@@ -118,10 +118,10 @@ unfolding sortRank
 sortRank-sorted G [] = tt
 sortRank-sorted G (e ∷ l) = byRank-sorted G e (sortRank G l) (sortRank-sorted G l)
 
-sortRank-nodup : (G l : List Edit) → Once l → Once (sortRank G l)
+pub sortRank-once : (G l : List Edit) → Once l → Once (sortRank G l)
 unfolding sortRank
-sortRank-nodup G [] n = tt
-sortRank-nodup G (e ∷ l) n = byRank-nodup G e (sortRank G l) (sortRank-nodup G l (n .1)) (λ (f : Edit) (m : InSet f (sortRank G l)). n .0 f (sortRank-from G l f m))
+sortRank-once G [] n = tt
+sortRank-once G (e ∷ l) n = byRank-once G e (sortRank G l) (sortRank-once G l (n .1)) (λ (f : Edit) (m : InSet f (sortRank G l)). n .0 f (sortRank-from G l f m))
 
 module _ (S : List Edit) (lower : (e f : Edit) → InSet e S → InSet f S → below (e .context) (f .id) ≡ true → rank S f < rank S e) where
   sorted-after : (es done : List Edit) → RankSorted S es → Once es → ((f : Edit) → InSet f es → InSet f S) → ((f : Edit) → InSet f S → InSet f done ⊎ InSet f es)
@@ -154,5 +154,5 @@ module _ (S : List Edit) (lower : (e f : Edit) → InSet e S → InSet f S → b
 
   -- the set's own order puts every edit after its context
   pub own-order : Once S → After S [] (sortRank S S)
-  own-order n = sorted-after (sortRank S S) [] (sortRank-sorted S S) (sortRank-nodup S S n) (sortRank-from S S) (λ (f : Edit) (m : InSet f S). inr (sortRank-to S S f m))
+  own-order n = sorted-after (sortRank S S) [] (sortRank-sorted S S) (sortRank-once S S n) (sortRank-from S S) (λ (f : Edit) (m : InSet f S). inr (sortRank-to S S f m))
     (λ (f : Edit) (m : InSet f []). absurd (List·Memᴰ·not-nil m))
