@@ -9,3 +9,4 @@ pub mod Converge
 pub mod Ranks
 pub mod Sets
 pub mod OnUnits
+pub mod Totals
