@@ -10,3 +10,4 @@ pub mod Ranks
 pub mod Sets
 pub mod OnUnits
 pub mod Totals
+pub mod Ranges
