@@ -11,3 +11,4 @@ pub mod Sets
 pub mod OnUnits
 pub mod Totals
 pub mod Ranges
+pub mod WellUnits
