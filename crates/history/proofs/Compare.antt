@@ -39,7 +39,7 @@ use Rattle.history.proofs.Run.{MemE, MemH, num, first, spanOf, Made, ma
 
 -- ---- small facts
 
-sorted-keep : (key : OptId → Key) (t : FugueSpan → Bool) (l : List FugueSpan) → Sorted key l → Sorted key (keepIf t l)
+pub sorted-keep : (key : OptId → Key) (t : FugueSpan → Bool) (l : List FugueSpan) → Sorted key l → Sorted key (keepIf t l)
 unfolding keepIf
 sorted-keep key t [] s = tt
 sorted-keep key t (v ∷ l) s = go (t v) (sorted-keep key t l (s .1))
@@ -52,7 +52,7 @@ pub sorted-sees : (key : OptId → Key) (v : Version) (h : History) → Sorted k
 sorted-sees key v h s = sorted-keep key notFuture (map (view v (h .held)) (h .list))
   (sorted-alike key (h .list) (map (view v (h .held)) (h .list)) (alike-map (view v (h .held)) (view-same v (h .held)) (h .list)) s)
 
-behind-sub : (l : List FugueSpan) (n : ℕ) (w : FugueSpan) → Mem w (behind l n) → Mem w l
+pub behind-sub : (l : List FugueSpan) (n : ℕ) (w : FugueSpan) → Mem w (behind l n) → Mem w l
 unfolding behind
 behind-sub [] n w m = m
 behind-sub (v ∷ l) zero w m = m

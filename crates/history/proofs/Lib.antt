@@ -12,3 +12,4 @@ pub mod OnUnits
 pub mod Totals
 pub mod Ranges
 pub mod WellUnits
+pub mod Targets
