@@ -13,3 +13,4 @@ pub mod Totals
 pub mod Ranges
 pub mod WellUnits
 pub mod Targets
+pub mod Valid

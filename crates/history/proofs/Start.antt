@@ -154,3 +154,8 @@ module _ (m : ℕ) where
 pub run-start : (n : ℕ) → (key : OptId → Key) × Run n (base n) (start n) key
 run-start zero = (noKeys, run-empty)
 run-start (suc m) = (key0 m, run-holder m)
+
+-- its list: n units, those of the placeholder
+pub start-list : (n : ℕ) → (length (start n .list) ≡ n) × (1 ≤ n → (w : FugueSpan) → Mem w (unitsOf (placeholder n)) → Mem w (start n .list))
+start-list zero = ((unfold start in refl), λ (b : 1 ≤ 0). absurd (let z : ⊥ = omega arith in z))
+start-list (suc m) = (ap length (list0 m) ∙ length0 m, λ (b : 1 ≤ suc m) (w : FugueSpan) (k : Mem w (unitsOf (placeholder (suc m)))). subst (λ (z : List FugueSpan). Mem w z) (sym (list0 m)) k)
