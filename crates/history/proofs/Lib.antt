@@ -14,3 +14,4 @@ pub mod Ranges
 pub mod WellUnits
 pub mod Targets
 pub mod Valid
+pub mod Codes
