@@ -15,3 +15,4 @@ pub mod WellUnits
 pub mod Targets
 pub mod Valid
 pub mod Codes
+pub mod Stored

@@ -8,18 +8,20 @@ use lib.ListN.{length}
 use lib.Dec.{eqb}
 use lib.IntN.{pos}
 use native.Mathlib.Omega.{arith}
-use borrow.Author.Tests.{le-leb, ne-eqb}
+use borrow.Author.Tests.{le-leb, lt-ltb, ne-eqb}
 use Rattle.span.specs.declared.chunk.RichtextChunk.{RichtextChunk}
 use Rattle.span.specs.declared.ids.Id.{Id}
 use Rattle.span.specs.declared.ids.OptId.{OptId}
 use Rattle.span.specs.declared.ids.OptId.the-variants.{Nothing, At}
 use Rattle.span.specs.declared.span.FugueSpan.{FugueSpan}
-use Rattle.span.specs.Chunk.{UNKNOWN, chunk, lenOf, shapeOf}
-use Rattle.span.specs.Ids.{UNKNOWN-PEER, id, incId}
-use Rattle.span.specs.Span.{newSpan, shift}
+use Rattle.span.specs.Chunk.{UNKNOWN, chunk, formed, lenOf, shapeOf}
+use Rattle.span.specs.Ids.{UNKNOWN-PEER, id, incId, room, roomOpt}
+use Rattle.span.specs.Span.{spanCode, newSpan, realNew, shift}
 use Rattle.span.specs.Units.{unitsOf}
 use Rattle.span.specs.Units as Units
-use Rattle.span.proofs.ForRope.{units-length}
+use Rattle.span.proofs.UnitLaws.{span-of}
+use Rattle.span.proofs.ForRope.{units-length, span-units}
+use Rattle.rope.specs.Limits.{UNITS}
 use Rattle.rope.specs.Place.{parentRight, hasOl, front, behind, lastId, firstPast, originLeft, originRight, withOrigins, putAt, scanPlace, run, upTo, insertUnits, shown}
 use Rattle.rope.specs.Query.{placeholder}
 use Rattle.fugue.specs.Tree.{ref, ol, or}
@@ -38,6 +40,7 @@ use Rattle.history.specs.Codes.{inside}
 use Rattle.history.proofs.Plain.{plain}
 use Rattle.history.proofs.Context.{holds, clock, Known, before, before-unknown, Natural, holder, base, holder-size}
 use Rattle.history.proofs.Run.{MemE, MemH, Made, Src, Run, spanOf}
+use Rattle.history.proofs.WellUnits.{Units1, of-all}
 
 abbrev noKeys : OptId → Key
 noKeys r = []
@@ -159,3 +162,12 @@ run-start (suc m) = (key0 m, run-holder m)
 pub start-list : (n : ℕ) → (length (start n .list) ≡ n) × (1 ≤ n → (w : FugueSpan) → Mem w (unitsOf (placeholder n)) → Mem w (start n .list))
 start-list zero = ((unfold start in refl), λ (b : 1 ≤ 0). absurd (let z : ⊥ = omega arith in z))
 start-list (suc m) = (ap length (list0 m) ∙ length0 m, λ (b : 1 ≤ suc m) (w : FugueSpan) (k : Mem w (unitsOf (placeholder (suc m)))). subst (λ (z : List FugueSpan). Mem w z) (sym (list0 m)) k)
+
+-- they are well formed units
+holder-code : (m : ℕ) → suc m ≤ UNITS → spanCode (placeholder (suc m)) ≡ 0
+unfolding placeholder newSpan realNew formed lenOf shapeOf roomOpt room
+holder-code m b = span-of (placeholder (suc m)) (suc m) refl (lt-ltb 0 (suc m) (omega arith)) (le-leb (0 + suc m) 2147483647 (omega arith)) (omega arith) refl
+
+pub start-units : (n : ℕ) → n ≤ UNITS → Units1 (start n .list)
+start-units zero b u m = let e : start 0 .list ≡ [] = (unfold start in refl) in absurd (List·Memᴰ·not-nil (subst (λ (z : List FugueSpan). Mem u z) e m))
+start-units (suc m) b u k = of-all (unitsOf (placeholder (suc m))) (span-units (placeholder (suc m)) (holder-code m b)) u (subst (λ (z : List FugueSpan). Mem u z) (list0 m) k)

@@ -55,7 +55,7 @@ unfolding AllUnits
 all-of [] f = tt
 all-of (u ∷ us) f = (f u (List·Memᴰ·head refl) .0, (f u (List·Memᴰ·head refl) .1, all-of us (λ (w : FugueSpan) (m : Mem w us). f w (List·Memᴰ·tail m))))
 
-of-all : (us : List FugueSpan) → AllUnits us → Units1 us
+pub of-all : (us : List FugueSpan) → AllUnits us → Units1 us
 unfolding AllUnits
 of-all [] a u m = absurd (List·Memᴰ·not-nil m)
 of-all (v ∷ us) a u m = go (List·Memᴰ·cases-cons m) (of-all us (a .1 .1) u)
