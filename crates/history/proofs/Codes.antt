@@ -122,6 +122,15 @@ offices held e h = ap₂ (λ (b : Bool) (k : ℕ). b || not (leb PEERS k)) (has-
 six : (a b c d f g : Bool) → a ≡ true → b ≡ true → c ≡ true → d ≡ true → f ≡ true → g ≡ true → _≡_ {A = ℕ} (cond a (cond b (cond c (cond d (cond f (cond g 0 7) 6) 5) 4) 2) 1) 0
 six a b c d f g ha hb hc hd hf hg = rw (ha, hb, hc, hd, hf, hg)
 
+-- a context names no placeholder
+pub pair-known : (n : ℕ) (S : List Edit) (wf : WellFormedSet S) (e : Edit) → InSet e S → (k : Count) → List·Memᴰ k (e .context) → ¬ (k .peer ≡ UNKNOWN-PEER)
+pair-known n S wf e me k m d =
+  let b : (1 ≤ number (k .many)) × (countOf (e .context) (k .peer) ≡ number (k .many)) = pair-some (e .context) (wf .pairs e me) k m in
+  let b1 : 1 ≤ number (k .many) = b .0 in
+  let b2 : countOf (e .context) (k .peer) ≡ number (k .many) = b .1 in
+  let t : IdOf S (k .peer) 0 = wf .within e me (k .peer) 0 (omega arith) in
+  sound n S wf (t .edit) (t .isIn) .0 (t .uses .peer ∙ d)
+
 module _ (n : ℕ) (S : List Edit) (wf : WellFormedSet S) (held : List Held) (done : List Edit)
   (counts : (p : ℕ) → ¬ (p ≡ UNKNOWN-PEER) → heldCount held p ≡ cnt (clock n) done p) (ofS : (x : Held) → MemH x held → InSet (x .edit) S)
   (e : Edit) (me : InSet e S) (fits : Fits (clock n) done e) where
@@ -130,16 +139,8 @@ module _ (n : ℕ) (S : List Edit) (wf : WellFormedSet S) (held : List Held) (do
   ctx-held : (p : ℕ) → ¬ (p ≡ UNKNOWN-PEER) → countOf (e .context) p ≤ heldCount held p
   ctx-held p k = omega (arith, fits .held p, holds-known n e p (sound n S wf e me .0), count-known n (e .context) p k, counts p k)
 
-  pair-known : (k : Count) → List·Memᴰ k (e .context) → ¬ (k .peer ≡ UNKNOWN-PEER)
-  pair-known k m d =
-    let b : (1 ≤ number (k .many)) × (countOf (e .context) (k .peer) ≡ number (k .many)) = pair-some (e .context) (wf .pairs e me) k m in
-    let b1 : 1 ≤ number (k .many) = b .0 in
-    let b2 : countOf (e .context) (k .peer) ≡ number (k .many) = b .1 in
-    let t : IdOf S (k .peer) 0 = wf .within e me (k .peer) 0 (omega arith) in
-    sound n S wf (t .edit) (t .isIn) .0 (t .uses .peer ∙ d)
-
   pub pair-held : (k : Count) → List·Memᴰ k (e .context) → number (k .many) ≤ heldCount held (k .peer)
-  pair-held k m = omega (arith, pair-some (e .context) (wf .pairs e me) k m .1, ctx-held (k .peer) (pair-known k m))
+  pair-held k m = omega (arith, pair-some (e .context) (wf .pairs e me) k m .1, ctx-held (k .peer) (pair-known n S wf e me k m))
 
   pub edit-code : peers (e ∷ arrived held) ≤ PEERS → countOf (e .context) (e .id .peer) ≤ firstOf e → editCode held e ≡ 0
   unfolding editCode closed ownCount

@@ -16,3 +16,4 @@ pub mod Targets
 pub mod Valid
 pub mod Codes
 pub mod Stored
+pub mod Demand
