@@ -17,3 +17,4 @@ pub mod Valid
 pub mod Codes
 pub mod Stored
 pub mod Demand
+pub mod Witness
