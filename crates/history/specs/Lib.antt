@@ -8,4 +8,6 @@ pub mod Apply
 pub mod Valid
 pub mod Codes
 pub mod Open
+pub mod Script
 pub mod Rows
+pub mod Refusals
