@@ -1,10 +1,9 @@
 -- The arrival of an edit, on units: the list goes to its context, then the rope inserts or deletes there. Afterwards it stands at the context plus the edit
 -- itself. Assumes nothing.
 use Prim.Native.Nat.{ℕ}
-use mathlib.Core.Bool.{Bool, cond}
+use mathlib.Core.Bool.{cond}
 use mathlib.Core.List.{List, [], _∷_, _++_, map}
 use lib.Dec.{eqb}
-use Rattle.span.specs.declared.ids.Id.{Id}
 use Rattle.span.specs.declared.span.FugueSpan.{FugueSpan}
 use Rattle.span.specs.Span.{newSpan}
 use Rattle.span.specs.Units.{unitsOf}

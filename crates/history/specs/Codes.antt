@@ -1,8 +1,8 @@
 -- What each history call answers: 0 or the number of 01's refusal, from the whole input, and the history afterwards. 15 goes first and 13 last, else the lowest.
 -- Assumes nothing.
 use Prim.Native.Nat.{ℕ, _+_}
-use mathlib.Core.Bool.{Bool, true, false, not, _&&_, cond}
-use mathlib.Core.List.{List, [], _∷_, _++_}
+use mathlib.Core.Bool.{Bool, _&&_, cond}
+use mathlib.Core.List.{List, _++_}
 use lib.Dec.{ltb, leb, eqb}
 use lib.ListN.{length}
 use Rattle.span.specs.declared.span.FugueSpan.{FugueSpan}
@@ -13,10 +13,10 @@ use Rattle.rope.specs.Lists.{every, over}
 use Rattle.rope.specs.Place.{shown}
 use Rattle.rope.specs.Delta.{Entry, insertable}
 use Rattle.rope.specs.Codes.{unless, kept, placeholderCode}
-use Rattle.history.specs.Edit.{Version, Act, Insert, Delete, Edit, Range, History}
+use Rattle.history.specs.Edit.{Version, Act, Insert, Delete, Edit, History}
 use Rattle.history.specs.Version.{named, closed}
 use Rattle.history.specs.Checkout.{unitsAt, checkout}
-use Rattle.history.specs.Arrive.{start, actList, actTook, listAfter, tookBy, arrive}
+use Rattle.history.specs.Arrive.{listAfter, tookBy, arrive}
 use Rattle.history.specs.Deltas.{spansBetween, delta}
 use Rattle.history.specs.Valid.{editCode, targetList, valid}
 

@@ -8,5 +8,7 @@ pub mod Apply
 pub mod Valid
 pub mod Codes
 pub mod Open
+pub mod Script
 pub mod Rows
 pub mod Demand
+pub mod Refusals

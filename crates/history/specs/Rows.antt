@@ -2,7 +2,7 @@
 -- the set alone, where the row is of placement.
 use Prim.Native.Nat.{ℕ, zero, suc}
 use mathlib.Core.Path.{_≡_, refl}
-use mathlib.Core.Bool.{Bool, true, false, cond}
+use mathlib.Core.Bool.{true, false, cond}
 use mathlib.Core.List.{List, [], _∷_, _++_, map}
 use lib.Dec.{eqb}
 use lib.IntN.{ℤ, pos}
@@ -11,52 +11,14 @@ use Rattle.span.specs.declared.ids.OptId.{OptId}
 use Rattle.span.specs.declared.ids.OptId.the-variants.{Nothing, At}
 use Rattle.span.specs.declared.span.FugueSpan.{FugueSpan}
 use Rattle.span.specs.Chunk.{chunk, lenOf}
-use Rattle.span.specs.Ids.{id}
 use Rattle.span.specs.Units.{tab, expand}
-use Rattle.rope.specs.Query.{visibles}
 use Rattle.rope.specs.Delta.{Entry, Retain}
 use Rattle.rope.specs.Delta as D
-use Rattle.history.specs.Edit.{Count, Version, Insert, Delete, Edit, History}
-use Rattle.history.specs.Arrive.{start}
+use Rattle.history.specs.Edit.{Version, Edit, History}
 use Rattle.history.specs.Tree.{treeOf}
-use Rattle.history.specs.Codes.{stored, arriveCode, arriveOf, deltaCode, deltaOf}
+use Rattle.history.specs.Codes.{arriveCode, deltaOf}
 use Rattle.history.specs.Open.{historyOpen}
-
--- ---------------------------------------------------------------- writing rows
-
--- the pair p:n of a version; the id p.c
-infixl 90 _∶_
-abbrev _∶_ : ℕ → ℕ → Count
-p ∶ n = record { peer = p; many = pos n }
-
-abbrev u : ℕ → ℕ → Id
-u p c = id p (pos c)
-
--- n units of text by peer p from counter c on, at a position, with a context; one unit; a delete with target start t.s
-abbrev text : ℕ → ℕ → ℕ → ℕ → Version → Edit
-text n p c at v = record { id = u p c; at = at; act = Insert 0 (chunk 0 n); context = v }
-
-abbrev one : ℕ → ℕ → ℕ → Version → Edit
-one p c at v = text 1 p c at v
-
-abbrev del : ℕ → ℕ → ℕ → ℕ → Bool → Id → Version → Edit
-del n p c at reversed t v = record { id = u p c; at = at; act = Delete n reversed t; context = v }
-
--- ---------------------------------------------------------------- running them
-
-abbrev accept : History → Edit → History
-accept h e = arriveOf 65536 65536 h e .1
-
-abbrev run : History → List Edit → History
-run h [] = h
-run h (e ∷ es) = run (accept h e) es
-
--- the stored start
-abbrev new : ℕ → History
-new n = stored (start n)
-
-abbrev ids : History → List Id
-ids h = map (λ (v : FugueSpan). v .id) (expand (h .list))
+use Rattle.history.specs.Script.{_∶_, u, text, one, del, accept, run, new, ids, shownIds}
 
 -- each edit that is accepted next; the histories after all of them, in every order that is accepted throughout
 abbrev tryEach : (History → List Edit → List History) → History → List Edit → List Edit → List History
@@ -123,9 +85,6 @@ abbrev larger : List Edit
 larger = one 2 0 0 [] ∷ one 1 0 0 [] ∷ one 2 1 1 (1 ∶ 1 ∷ 2 ∶ 1 ∷ []) ∷ one 1 1 1 (1 ∶ 1 ∷ []) ∷ []
 
 -- ---------------------------------------------------------------- what a history shows
-
-abbrev shownIds : History → List Id
-shownIds h = map (λ (v : FugueSpan). v .id) (visibles (expand (h .list)))
 
 -- the first id, length and count of each span
 abbrev spans : History → List (Id × ℕ × ℤ)

@@ -1,7 +1,7 @@
 -- The history of a set of edits with no scan and no arrival order: an edit's origins are found at its context, its units are hung on the Fugue tree, and the
 -- list is the walk of the tree. Demand 3 says that every arrival gives this list. Assumes nothing.
 use Prim.Native.Nat.{ℕ, _+_}
-use mathlib.Core.Bool.{Bool, cond}
+use mathlib.Core.Bool.{cond}
 use mathlib.Core.List.{List, [], _∷_, _++_}
 use lib.Dec.{ltb}
 use Rattle.span.specs.declared.span.FugueSpan.{FugueSpan}

@@ -3,11 +3,9 @@ use Prim.Native.Nat.{ℕ, suc, _+_}
 use mathlib.Core.Bool.{Bool, true, false, not, _&&_, _||_, cond}
 use mathlib.Core.List.{List, [], _∷_, _++_, map}
 use lib.Dec.{leb, eqb}
-use lib.IntN.{ℤ, pos}
+use lib.IntN.{pos}
 use lib.ListN.{length}
-use Rattle.span.specs.declared.ids.Id.{Id}
 use Rattle.span.specs.declared.ids.OptId.the-variants.{At}
-use Rattle.span.specs.declared.chunk.RichtextChunk.{RichtextChunk}
 use Rattle.span.specs.declared.span.FugueSpan.{FugueSpan}
 use Rattle.span.specs.Chunk.{formed, lenOf}
 use Rattle.span.specs.Status.{eqZ}
@@ -18,7 +16,7 @@ use Rattle.rope.specs.Limits.{PEERS, EDITS, fits}
 use Rattle.rope.specs.Lists.{every, some, keepIf}
 use Rattle.rope.specs.Store.{wellFormed}
 use Rattle.rope.specs.Codes.{unless}
-use Rattle.history.specs.Edit.{Version, Act, Insert, Delete, Edit, size, Range, Held, History}
+use Rattle.history.specs.Edit.{Act, Insert, Delete, Edit, size, Range, Held, History}
 use Rattle.history.specs.Version.{countOf, heldCount, named, closed}
 use Rattle.history.specs.Checkout.{inRanges, rangesOf}
 use Rattle.history.specs.Arrive.{start}

@@ -1,13 +1,13 @@
 -- Versions: what is in one, what a history holds, and when a version is well formed (6), closed and ending inside no delete (7). Assumes nothing.
-use Prim.Native.Nat.{ℕ, suc, _+_}
-use mathlib.Core.Bool.{Bool, true, false, not, _&&_, _||_, cond}
+use Prim.Native.Nat.{ℕ, _+_}
+use mathlib.Core.Bool.{Bool, true, not, _&&_, _||_, cond}
 use mathlib.Core.List.{List, [], _∷_}
 use lib.Dec.{ltb, leb, eqb}
 use lib.IntN.{ℤ, pos, negsuc, _+ℤ_}
 use lib.Signed.{leZ, ltZ}
 use Rattle.span.specs.declared.ids.Id.{Id}
 use Rattle.span.specs.Ids.{UNKNOWN-PEER}
-use Rattle.rope.specs.Lists.{every, some}
+use Rattle.rope.specs.Lists.{every}
 use Rattle.rope.specs.Codes.{unless}
 use Rattle.history.specs.Edit.{Count, Version, Act, Insert, Delete, Edit, Held, size}
 
