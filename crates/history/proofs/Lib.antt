@@ -18,3 +18,4 @@ pub mod Codes
 pub mod Stored
 pub mod Demand
 pub mod Witness
+pub mod Accepts
