@@ -116,6 +116,44 @@ act-units (Insert lam c) e l d k f b u =
   units-insert (e .at) (newSpan (e .id) lam c) l (span-new (e .id) lam c (originLeft (e .at) l) (originRight (e .at) l) k f (subst (λ (z : ℕ). roomOpt (At (e .id)) z ≡ true) s (t .0)) (leb-true (lam + lenOf c) 4294967295 (t .1))) u
 act-units (Delete m reversed target) e l d k f b u = units-delete (e .at) m target l (and-eq-true-iff (roomOpt (At (e .id)) (size e)) (roomOpt (At target) m) .0 b .1) u
 
+-- ---- the history after an arrival
+
+module _ (n : ℕ) (done A : List Edit) (h : History) (st : Store n done A h) (e : Edit) (a : Arriving n done h e)
+  (formed-e : actFormed (e .act) ≡ true) (ids-e : (roomOpt (At (e .id)) (size e) && actIds (e .act)) ≡ true) (code-e : editCode (h .held) e ≡ 0) where
+  pub store-next : Store n (e ∷ done) (A ++ (e ∷ [])) (arrive h e)
+  unfolding arrive hold
+  store-next = record { holder = st .holder;
+      order = arrived-snoc (h .held) x ∙ ap (λ (z : List Edit). z ++ (e ∷ [])) (st .order);
+      from = λ (f : Edit) (m : MemE f (e ∷ done)). from2 f (List·Memᴰ·cases-cons m);
+      units = act-units (e .act) e (unitsAt (e .context) h) refl (a .known) formed-e ids-e (units-at (e .context) h (st .units));
+      counts = λ (p : ℕ) (k : ¬ (p ≡ UNKNOWN-PEER)). count-snoc (h .held) x p ∙ counts2 p k (eqb-test (e .id .peer) p);
+      fit = fit-snoc [] (h .held) x (st .fit) code-e;
+      many = many2 }
+    where
+      x : Held
+      x = record { edit = e; took = tookBy h e }
+      from2 : (f : Edit) → (f ≡ e) ⊎ MemE f done → MemE f (base n) ⊎ InSet f (A ++ (e ∷ []))
+      from2 f (inl d) = inr (Memᴰ·append-right A (List·Memᴰ·head d))
+      from2 f (inr m) = two (st .from f m)
+        where
+          two : MemE f (base n) ⊎ InSet f A → MemE f (base n) ⊎ InSet f (A ++ (e ∷ []))
+          two (inl k) = inl k
+          two (inr k) = inr (Memᴰ·append-left (e ∷ []) k)
+      counts2 : (p : ℕ) → ¬ (p ≡ UNKNOWN-PEER) → Test (eqb (e .id .peer) p) (e .id .peer ≡ p) → heldCount (h .held) p + cond (eqb (e .id .peer) p) (size e) 0 ≡ cnt (clock n) (e ∷ done) p
+      counts2 p k (pass b d) =
+        let o : cnt (clock n) done p ≡ firstOf e = subst (λ (z : ℕ). cnt (clock n) done z ≡ firstOf e) d (a .fits .own) in
+        let c : cnt (clock n) (e ∷ done) p ≡ firstOf e + size e = (unfold cnt in ap (λ (z : Bool). cond z (firstOf e + size e) (cnt (clock n) done p)) b) in
+        let g : cond (eqb (e .id .peer) p) (size e) 0 ≡ size e = ap (λ (z : Bool). cond z (size e) 0) b in
+        omega (arith, st .counts p k)
+      counts2 p k (fail b d) =
+        let c : cnt (clock n) (e ∷ done) p ≡ cnt (clock n) done p = (unfold cnt in ap (λ (z : Bool). cond z (firstOf e + size e) (cnt (clock n) done p)) b) in
+        let g : cond (eqb (e .id .peer) p) (size e) 0 ≡ 0 = ap (λ (z : Bool). cond z (size e) 0) b in
+        omega (arith, st .counts p k)
+      many2 : length (actList (e .act) e (unitsAt (e .context) h)) ≡ n + sum (λ (e : Edit). made (e .act)) (A ++ (e ∷ []))
+      many2 =
+        let s : sum (λ (e : Edit). made (e .act)) (e ∷ []) ≡ made (e .act) = (unfold sum in omega arith) in
+        omega (arith, act-length (e .act) e (unitsAt (e .context) h), at-length (e .context) h, st .many, sum-app (λ (e : Edit). made (e .act)) A (e ∷ []))
+
 -- ---- codes
 
 five : (v i l f : Bool) (k : ℕ) → v ≡ true → k ≡ 0 → i ≡ true → l ≡ true → f ≡ true → _≡_ {A = ℕ} (cond v (cond (eqb k 0) (cond i (cond l (cond f 0 10) 9) 8) k) 15) 0
@@ -143,7 +181,7 @@ module _ (n spans targets : ℕ) (S : List Edit) (wf : WellFormedSet S) (lim : L
     -- what is stored is well formed
     pub no-15 : (rest : List Edit) → A ++ rest ≡ fs → valid spans targets (stored h) ≡ true
     no-15 rest q = is-valid n done A h key r st spans targets
-      (omega (arith, st .many, upto (λ (e : Edit). made (e .act)) A rest q, lim .spanRoom)) (omega (arith, st .many, upto (λ (e : Edit). made (e .act)) A rest q, lim .units))
+      (omega (arith, join-length (h .list), st .many, upto (λ (e : Edit). made (e .act)) A rest q, lim .spanRoom)) (omega (arith, st .many, upto (λ (e : Edit). made (e .act)) A rest q, lim .units))
       (omega (arith, targets-few n done A h key r st, upto (λ (e : Edit). actLength (e .act)) A rest q, lim .targetRoom))
       (omega (arith, held-length n done A h key r st, upto (λ (e : Edit). 1) A rest q, sum-length A, sum-length S, lim .edits))
 
@@ -191,38 +229,7 @@ module _ (n spans targets : ℕ) (S : List Edit) (wf : WellFormedSet S) (lim : L
       left = ap (λ (k : ℕ). cond (eqb k 0) (stored (arrive (onUnits (stored h)) e)) (stored h)) code ∙ ap (λ (z : History). stored (arrive z e)) back
 
       pub next : Store n (e ∷ done) (A ++ (e ∷ [])) (arrive h e)
-      unfolding arrive hold
-      next = record { holder = st .holder;
-          order = arrived-snoc (h .held) x ∙ ap (λ (z : List Edit). z ++ (e ∷ [])) (st .order);
-          from = λ (f : Edit) (m : MemE f (e ∷ done)). from2 f (List·Memᴰ·cases-cons m);
-          units = act-units (e .act) e (unitsAt (e .context) h) refl (a .known) (wf .formed e me) (wf .ids e me) (units-at (e .context) h (st .units));
-          counts = λ (p : ℕ) (k : ¬ (p ≡ UNKNOWN-PEER)). count-snoc (h .held) x p ∙ counts2 p k (eqb-test (e .id .peer) p);
-          fit = fit-snoc [] (h .held) x (st .fit) e-code;
-          many = many2 }
-        where
-          x : Held
-          x = record { edit = e; took = tookBy h e }
-          from2 : (f : Edit) → (f ≡ e) ⊎ MemE f done → MemE f (base n) ⊎ InSet f (A ++ (e ∷ []))
-          from2 f (inl d) = inr (Memᴰ·append-right A (List·Memᴰ·head d))
-          from2 f (inr m) = two (st .from f m)
-            where
-              two : MemE f (base n) ⊎ InSet f A → MemE f (base n) ⊎ InSet f (A ++ (e ∷ []))
-              two (inl k) = inl k
-              two (inr k) = inr (Memᴰ·append-left (e ∷ []) k)
-          counts2 : (p : ℕ) → ¬ (p ≡ UNKNOWN-PEER) → Test (eqb (e .id .peer) p) (e .id .peer ≡ p) → heldCount (h .held) p + cond (eqb (e .id .peer) p) (size e) 0 ≡ cnt (clock n) (e ∷ done) p
-          counts2 p k (pass b d) =
-            let o : cnt (clock n) done p ≡ firstOf e = subst (λ (z : ℕ). cnt (clock n) done z ≡ firstOf e) d (a .fits .own) in
-            let c : cnt (clock n) (e ∷ done) p ≡ firstOf e + size e = (unfold cnt in ap (λ (z : Bool). cond z (firstOf e + size e) (cnt (clock n) done p)) b) in
-            let g : cond (eqb (e .id .peer) p) (size e) 0 ≡ size e = ap (λ (z : Bool). cond z (size e) 0) b in
-            omega (arith, st .counts p k)
-          counts2 p k (fail b d) =
-            let c : cnt (clock n) (e ∷ done) p ≡ cnt (clock n) done p = (unfold cnt in ap (λ (z : Bool). cond z (firstOf e + size e) (cnt (clock n) done p)) b) in
-            let g : cond (eqb (e .id .peer) p) (size e) 0 ≡ 0 = ap (λ (z : Bool). cond z (size e) 0) b in
-            omega (arith, st .counts p k)
-          many2 : length (actList (e .act) e (unitsAt (e .context) h)) ≡ n + sum (λ (e : Edit). made (e .act)) (A ++ (e ∷ []))
-          many2 =
-            let s : sum (λ (e : Edit). made (e .act)) (e ∷ []) ≡ made (e .act) = (unfold sum in omega arith) in
-            omega (arith, act-length (e .act) e (unitsAt (e .context) h), at-length (e .context) h, st .many, sum-app (λ (e : Edit). made (e .act)) A (e ∷ []))
+      next = store-next n done A h st e a (wf .formed e me) (wf .ids e me) e-code
 
   -- all of them
   pub record Done (A : List Edit) (done : List Edit) (h : History) (es : List Edit) : Type 0 where

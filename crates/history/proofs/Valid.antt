@@ -45,7 +45,7 @@ use Rattle.history.proofs.Context.{clock, before, holder, base, holder-
 use Rattle.history.proofs.Run.{MemE, MemH, spanOf, Made, made-peer, Src, Run}
 use Rattle.history.proofs.Start.{start-list}
 use Rattle.history.proofs.Sets.{base-is}
-use Rattle.history.proofs.WellUnits.{Units1, all-of, join-length, well-joined}
+use Rattle.history.proofs.WellUnits.{Units1, all-of, well-joined}
 use Rattle.history.proofs.Targets.{targets-fit, took-few}
 
 -- ---- tests over lists
@@ -196,10 +196,10 @@ module _ (n : ℕ) (done A : List Edit) (h : History) (key : OptId → Key) (r :
   read-back = ap (λ (z : List FugueSpan). record { placeholder = h .placeholder; list = z; held = h .held }) (expand-join (h .list) (all-of (h .list) (st .units)))
 
   -- no 15
-  pub is-valid : (spans targets : ℕ) → length (h .list) ≤ spans → length (h .list) ≤ UNITS → length (targetList (h .held)) ≤ targets → length (h .held) ≤ EDITS → valid spans targets (stored h) ≡ true
+  pub is-valid : (spans targets : ℕ) → length (join (h .list)) ≤ spans → length (h .list) ≤ UNITS → length (targetList (h .held)) ≤ targets → length (h .held) ≤ EDITS → valid spans targets (stored h) ≡ true
   unfolding valid stored fits
   is-valid spans targets a b c d = ap₂ _&&_
-    (ap₂ _&&_ (le-leb (length (join (h .list))) spans (omega (arith, join-length (h .list)))) (ap₂ _&&_ (le-leb (length (targetList (h .held))) targets c) (le-leb (length (h .held)) EDITS d)))
+    (ap₂ _&&_ (le-leb (length (join (h .list))) spans a) (ap₂ _&&_ (le-leb (length (targetList (h .held))) targets c) (le-leb (length (h .held)) EDITS d)))
     (ap₂ _&&_ (well-joined key (h .list) (r .good) (st .units) b) (ap₂ _&&_ (st .fit)
       (ap (λ (z : List FugueSpan). sameUnits z (madeUnits h) && every (targetsFit z) (h .held)) (expand-join (h .list) (all-of (h .list) (st .units)))
       ∙ ap₂ _&&_ same-units (every-of (targetsFit (h .list)) (h .held) (targets-fit n done h key r)))))
