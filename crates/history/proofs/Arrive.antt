@@ -284,7 +284,7 @@ module _ (n : ℕ) (done : List Edit) (h : History) (key : OptId → Key) (r : R
 
   -- ---- a delete
 
-  real : (u : FugueSpan) → Mem u (h .list) → Real u
+  pub real : (u : FugueSpan) → Mem u (h .list) → Real u
   unfolding plain withState realPlain shift withOrigins newSpan realNew incOpt incId
   real u k = go (known-or (sr .e)) (ap (λ (z : FugueSpan). z .«real_id») (sr .made .is))
     where

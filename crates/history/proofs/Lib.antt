@@ -19,3 +19,4 @@ pub mod Stored
 pub mod Demand
 pub mod Witness
 pub mod Accepts
+pub mod Reals

@@ -38,7 +38,7 @@ idOf u = u .id
 
 -- ---- the first n visible units behind a position
 
-first-in : (l : List FugueSpan) (n : ℕ) (w : FugueSpan) → Mem w (firstShown l n) → Mem w l
+pub first-in : (l : List FugueSpan) (n : ℕ) (w : FugueSpan) → Mem w (firstShown l n) → Mem w l
 unfolding firstShown
 first-in [] n w m = m
 first-in (v ∷ l) zero w m = absurd (List·Memᴰ·not-nil m)
@@ -61,7 +61,7 @@ sorted-first key (v ∷ l) (suc n) s = go (activated (v .status)) (sorted-first 
     go true ih ih2 = (λ (w : FugueSpan) (m : Mem w (firstShown l n)). s .0 w (first-in l n w m), ih)
     go false ih ih2 = ih2
 
-sorted-behind : (key : OptId → Key) (l : List FugueSpan) (n : ℕ) → Sorted key l → Sorted key (behind l n)
+pub sorted-behind : (key : OptId → Key) (l : List FugueSpan) (n : ℕ) → Sorted key l → Sorted key (behind l n)
 unfolding behind
 sorted-behind key [] n s = tt
 sorted-behind key (v ∷ l) zero s = s
