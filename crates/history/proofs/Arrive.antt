@@ -54,6 +54,25 @@ pub record Arriving (n : ℕ) (done : List Edit) (h : History) (e : Edit) : Type
   pub some : 1 ≤ sizeOf (e .act)
   pub inside : inside (e .act) (e .at) (unitsAt (e .context) h) ≡ true
 
+-- every unit has a real id, or is a placeholder's
+module _ (n : ℕ) (done : List Edit) (h : History) (key : OptId → Key) (r : Run n done h key) where
+  pub real : (u : FugueSpan) → Mem u (h .list) → Real u
+  unfolding plain withState realPlain shift withOrigins newSpan realNew incOpt incId
+  real u k = go (known-or (sr .e)) (ap (λ (z : FugueSpan). z .«real_id») (sr .made .is))
+    where
+      sr : Src done h u
+      sr = r .src u k
+      e2 : Edit
+      e2 = sr .e
+      p : u .id .peer ≡ sr .e .id .peer
+      p = made-peer (sr .made)
+      go : Known (sr .e) ⊎ (sr .e .id .peer ≡ UNKNOWN-PEER)
+        → cond (eqb (u .id .peer) UNKNOWN-PEER) Nothing (u .«real_id») ≡ cond (eqb (sr .e .id .peer) UNKNOWN-PEER) Nothing (incOpt (cond (eqb (sr .e .id .peer) UNKNOWN-PEER) Nothing (At (sr .e .id))) (sr .made .k)) → Real u
+      go (inr d) q = inl (p ∙ d)
+      go (inl kn) q = inr (incId (sr .e .id) (sr .made .k),
+        sym (ap (λ (b : Bool). cond b Nothing (u .«real_id»)) (ne-eqb (u .id .peer) UNKNOWN-PEER (λ (d : u .id .peer ≡ UNKNOWN-PEER). kn (sym p ∙ d))))
+        ∙ (q ∙ ap (λ (b : Bool). cond b Nothing (incOpt (cond b Nothing (At (sr .e .id))) (sr .made .k))) (ne-eqb (sr .e .id .peer) UNKNOWN-PEER kn)))
+
 module _ (n : ℕ) (done : List Edit) (h : History) (key : OptId → Key) (r : Run n done h key) (e : Edit) (a : Arriving n done h e) where
   -- the list at the edit's context
   abbrev l1 : List FugueSpan
@@ -284,29 +303,12 @@ module _ (n : ℕ) (done : List Edit) (h : History) (key : OptId → Key) (r : R
 
   -- ---- a delete
 
-  pub real : (u : FugueSpan) → Mem u (h .list) → Real u
-  unfolding plain withState realPlain shift withOrigins newSpan realNew incOpt incId
-  real u k = go (known-or (sr .e)) (ap (λ (z : FugueSpan). z .«real_id») (sr .made .is))
-    where
-      sr : Src done h u
-      sr = r .src u k
-      e2 : Edit
-      e2 = sr .e
-      p : u .id .peer ≡ sr .e .id .peer
-      p = made-peer (sr .made)
-      go : Known (sr .e) ⊎ (sr .e .id .peer ≡ UNKNOWN-PEER)
-        → cond (eqb (u .id .peer) UNKNOWN-PEER) Nothing (u .«real_id») ≡ cond (eqb (sr .e .id .peer) UNKNOWN-PEER) Nothing (incOpt (cond (eqb (sr .e .id .peer) UNKNOWN-PEER) Nothing (At (sr .e .id))) (sr .made .k)) → Real u
-      go (inr d) q = inl (p ∙ d)
-      go (inl kn) q = inr (incId (sr .e .id) (sr .made .k),
-        sym (ap (λ (b : Bool). cond b Nothing (u .«real_id»)) (ne-eqb (u .id .peer) UNKNOWN-PEER (λ (d : u .id .peer ≡ UNKNOWN-PEER). kn (sym p ∙ d))))
-        ∙ (q ∙ ap (λ (b : Bool). cond b Nothing (incOpt (cond b Nothing (At (sr .e .id))) (sr .made .k))) (ne-eqb (sr .e .id .peer) UNKNOWN-PEER kn)))
-
   real1 : (u : FugueSpan) → Mem u l1 → Real u
   unfolding unitsAt Co.unitAt withState
   real1 u k = go (Memᴰ·of-map (Co.unitAt (e .context) (h .held)) (h .list) k)
     where
       go : (v : FugueSpan) × Mem v (h .list) × (Co.unitAt (e .context) (h .held) v ≡ u) → Real u
-      go t = subst Real (t .2) (unfold Co.unitAt withState in real (t .0) (t .1))
+      go t = subst Real (t .2) (unfold Co.unitAt withState in real n done h key r (t .0) (t .1))
 
   module _ (len : ℕ) (reversed : Bool) (target : Id) (act : e .act ≡ Delete len reversed target) where
     abbrev l3 : List FugueSpan

@@ -20,3 +20,4 @@ pub mod Demand
 pub mod Witness
 pub mod Accepts
 pub mod Reals
+pub mod Reached

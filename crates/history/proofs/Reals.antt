@@ -53,7 +53,7 @@ abbrev pub HasReal : FugueSpan → Type 0
 HasReal u = (i : Id) × (u .«real_id» ≡ At i)
 
 -- whatever a delete took has a real id
-pub Touched : History → Type 0
+unfoldable pub Touched : History → Type 0
 Touched h = (x : Held) → MemH x (h .held) → (u : FugueSpan) → Mem u (h .list) → inRanges (u .id) (x .took) ≡ true → HasReal u
 
 abbrev idOf : FugueSpan → Id
