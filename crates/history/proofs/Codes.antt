@@ -38,7 +38,7 @@ every-in {A} t (a ∷ l) e x m = go (and-eq-true-iff (t a) (every t l) .0 e) (Li
     go b (inl d) ih = ap t d ∙ b .0
     go b (inr k) ih = ih (b .1) k
 
-rising-above : (p : ℕ) (v : Version) → above p v ≡ true → rising v ≡ true → (k : Count) → List·Memᴰ k v → p < k .peer
+pub rising-above : (p : ℕ) (v : Version) → above p v ≡ true → rising v ≡ true → (k : Count) → List·Memᴰ k v → p < k .peer
 unfolding above rising
 rising-above p [] a r k m = absurd (List·Memᴰ·not-nil m)
 rising-above p (c ∷ v) a r k m =

@@ -28,22 +28,29 @@ use Rattle.history.specs.Arrive.{start, replay}
 use Rattle.history.specs.Tree.{sortRank, treeOf}
 use Rattle.history.specs.Valid.{valid}
 use Rattle.history.specs.Codes.{onUnits, stored, made, checkoutCode, checkoutOf}
-use Rattle.history.specs.Demand.{InSet, firstOf, WellFormedSet, Inside, Limits, ArrivalOrder, arriveAll, Whole, noReal, sum, Promise}
+use Rattle.history.specs.Demand.{InSet, firstOf, WellFormedSet, Inside, Limits, ArrivalOrder, arriveAll, wholeOf, noReal, sum, Promise}
 use Rattle.history.proofs.Context.{count, holds, clock, Known, holds-known, count-known, count-unknown, base}
 use Rattle.history.proofs.Run.{MemE, MemH, Run}
 use Rattle.history.proofs.Start.{run-start}
 use Rattle.history.proofs.OnUnits.{arrives, run, units-same, tree-walk}
-use Rattle.history.proofs.Sets.{sound}
+use Rattle.history.proofs.Sets.{sound, some-of}
 use Rattle.history.proofs.WellUnits.{units-at, all-of, join-length}
 use Rattle.history.proofs.Valid.{arrived, Store, read-back}
 use Rattle.history.proofs.Codes.{named-of, pair-some, pair-known, held-sum, closed-whole}
+use Rattle.history.proofs.Whole.{Whole, whole-of}
 use Rattle.history.proofs.Stored.{totals, no-15, held-in, Done, all-done, store-start}
 
 four : (v k c f : Bool) → v ≡ true → k ≡ true → c ≡ true → f ≡ true → _≡_ {A = ℕ} (cond v (cond k (cond c (cond f 0 10) 7) 6) 15) 0
 four v k c f hv hk hc hf = rw (hv, hk, hc, hf)
 
 module _ (n spans targets : ℕ) (S : List Edit) (wf : WellFormedSet S) (lim : Limits n spans targets S) (inside : Inside (start n) (sortRank S S))
-  (fs : List Edit) (ord : ArrivalOrder S fs) (v : Version) (whole : Whole S v) where
+  (fs : List Edit) (ord : ArrivalOrder S fs) where
+
+  abbrev v : Version
+  v = wholeOf S
+
+  whole : Whole S (wholeOf S)
+  whole = whole-of S (some-of n S wf)
 
   abbrev h : History
   h = replay (start n) fs
@@ -117,7 +124,7 @@ module _ (n spans targets : ℕ) (S : List Edit) (wf : WellFormedSet S) (lim : L
       units : expand (stored (checkout v (replay (start n) fs)) .list) ≡ unitsAt v (replay (start n) fs)
       units = unfold stored checkout in expand-join (unitsAt v (replay (start n) fs)) (all-of (unitsAt v (replay (start n) fs)) (units-at v (replay (start n) fs) (st .units)))
 
-  pub demand3 : Promise n spans targets S fs v
+  pub demand3 : Promise n spans targets S fs
   demand3 = record { accepted = done .accepted;
     checked = ap (λ (z : History). checkoutCode spans targets z v) (done .left) ∙ code;
     same = ap (λ (z : History). map noReal (expand (checkoutOf spans targets z v .1 .list))) (done .left) ∙ (ap (map noReal) list ∙ units-same n S wf inside fs ord v counts);

@@ -15,6 +15,7 @@ pub mod WellUnits
 pub mod Targets
 pub mod Valid
 pub mod Codes
+pub mod Whole
 pub mod Stored
 pub mod Demand
 pub mod Witness

@@ -18,7 +18,7 @@ use Rattle.history.specs.Arrive.{start}
 use Rattle.history.specs.Tree.{sortRank}
 use Rattle.history.specs.Valid.{actFormed, actIds}
 use Rattle.history.specs.Open.{historyOpen}
-use Rattle.history.specs.Demand.{InSet, firstOf, Uses, IdOf, Once, counted, WellFormedSet, Inside, peers, sum, Limits, After, ArrivalOrder, Whole, Promise}
+use Rattle.history.specs.Demand.{InSet, firstOf, Uses, IdOf, Once, counted, WellFormedSet, Inside, peers, sum, Limits, After, ArrivalOrder, Promise}
 use Rattle.history.proofs.Demand.{demand3}
 
 abbrev pair : ℕ → ℕ → Count
@@ -35,9 +35,6 @@ three = record { id = id 3 (pos 0); at = 1; act = Insert 5 (chunk 3 4); context 
 
 abbrev pub set : List Edit
 set = one ∷ two ∷ three ∷ []
-
-abbrev pub whole : Version
-whole = pair 1 1 ∷ pair 2 2 ∷ pair 3 1 ∷ []
 
 -- ---- by cases
 
@@ -140,29 +137,6 @@ limits : Limits 2 65536 65536 set
 unfolding historyOpen peers sum
 limits = record { edits = omega arith; offices = omega arith; units = omega arith; spanRoom = omega arith; targetRoom = omega arith }
 
-counts : (p : ℕ) → countOf whole p ≡ sum (λ (e : Edit). cond (eqb (e .id .peer) p) (size e) 0) set
-unfolding historyOpen sum
-counts p = go (eqb-test 1 p) (eqb-test 2 p) (eqb-test 3 p)
-  where
-    W : Bool → Bool → Bool → ℕ
-    W a b c = cond a 1 (cond b 2 (cond c 1 0))
-    T : Bool → Bool → Bool → ℕ
-    T a b c = cond a 1 0 + (cond b 2 0 + (cond c 1 0 + 0))
-    by-tests : (a b c : Bool) → eqb 1 p ≡ a → eqb 2 p ≡ b → eqb 3 p ≡ c → W a b c ≡ T a b c → W (eqb 1 p) (eqb 2 p) (eqb 3 p) ≡ T (eqb 1 p) (eqb 2 p) (eqb 3 p)
-    by-tests a b c x y z h = (λ i. W (x i) (y i) (z i)) ∙ (h ∙ sym (λ i. T (x i) (y i) (z i)))
-    go : Test (eqb 1 p) (1 ≡ p) → Test (eqb 2 p) (2 ≡ p) → Test (eqb 3 p) (3 ≡ p) → W (eqb 1 p) (eqb 2 p) (eqb 3 p) ≡ T (eqb 1 p) (eqb 2 p) (eqb 3 p)
-    go (pass a x) (pass b y) t = absurd (let z : ⊥ = omega arith in z)
-    go (pass a x) (fail b y) (pass c w) = absurd (let z : ⊥ = omega arith in z)
-    go (pass a x) (fail b y) (fail c w) = by-tests true false false a b c refl
-    go (fail a x) (pass b y) (pass c w) = absurd (let z : ⊥ = omega arith in z)
-    go (fail a x) (pass b y) (fail c w) = by-tests false true false a b c refl
-    go (fail a x) (fail b y) (pass c w) = by-tests false false true a b c refl
-    go (fail a x) (fail b y) (fail c w) = by-tests false false false a b c refl
-
-version : Whole set whole
-unfolding historyOpen
-version = record { pairs = refl; counts = counts }
-
 -- ---- two arrival orders
 
 -- what a context that holds 1.0 alone covers
@@ -227,8 +201,8 @@ order2 = record { all = λ (e : Edit) (m : InSet e set). in-swapped e (which e m
     ((λ (f : Edit) (m : InSet f set) (h : below (pair 1 1 ∷ []) (f .id) ≡ true). List·Memᴰ·tail (List·Memᴰ·head (only-one f (which f m) h))), tt))) }
 
 -- what the demand promises, of both
-pub promise1 : Promise 2 65536 65536 set set whole
-promise1 = demand3 2 65536 65536 set well-formed limits positions set order1 whole version
+pub promise1 : Promise 2 65536 65536 set set
+promise1 = demand3 2 65536 65536 set well-formed limits positions set order1
 
-pub promise2 : Promise 2 65536 65536 set swapped whole
-promise2 = demand3 2 65536 65536 set well-formed limits positions swapped order2 whole version
+pub promise2 : Promise 2 65536 65536 set swapped
+promise2 = demand3 2 65536 65536 set well-formed limits positions swapped order2
