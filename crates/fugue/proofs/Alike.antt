@@ -1,7 +1,7 @@
 -- Deletes and checkouts move nothing: `Good` speaks of ids and origins alone, so a list that has the same ids and origins, unit by unit, is good
 -- with it, whatever its statuses and contents. So too with other keys that are the same on the list.
-use Prim.Native.Nat.{ℕ, suc}
-use mathlib.Core.Path.{_≡_, refl, sym, ap, ap₂, subst, subst₂, _∙_}
+use Prim.Native.Nat.{suc}
+use mathlib.Core.Path.{_≡_, refl, sym, ap, subst, subst₂, _∙_}
 use mathlib.Core.Logic.{_⊎_, inl, inr}
 use mathlib.Core.Bool.{Bool, cond}
 use mathlib.Core.List.{List, [], _∷_, _++_, map, List·Memᴰ·head, List·Memᴰ·tail, List·Memᴰ·not-nil, List·Memᴰ·cases-cons}

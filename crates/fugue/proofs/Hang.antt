@@ -2,13 +2,13 @@
 use Prim.Native.Nat.{ℕ}
 use mathlib.Core.Path.{_≡_, refl, sym, ap, ap₂, subst, subst₂, _∙_}
 use mathlib.Core.Logic.{_⊎_, inl, inr}
-use mathlib.Core.List.{List, [], _∷_, _++_, append-assoc, nil≢cons, head-eq-of-cons-eq, tail-eq-of-cons-eq}
+use mathlib.Core.List.{[], _∷_, _++_, append-assoc, nil≢cons, head-eq-of-cons-eq, tail-eq-of-cons-eq}
 use native.Mathlib.Omega.{arith}
 use Rattle.span.specs.declared.ids.Id.{Id}
 use Rattle.span.specs.declared.ids.OptId.{OptId}
 use Rattle.span.specs.declared.ids.OptId.the-variants.{Nothing, At}
 use Rattle.fugue.proofs.Order.{LtId}
-use Rattle.fugue.proofs.Keys.{Step, sl, sr, Key, LtS, IsR, IsL, Lt, AllL, Lt-cancel, Lt-right, Lt-left, no-cross-left, cross-lefts, squeeze, tails, lefts-not-after, LR-no}
+use Rattle.fugue.proofs.Keys.{Step, sl, sr, Key, IsR, IsL, Lt, AllL, Lt-cancel, Lt-right, Lt-left, no-cross-left, cross-lefts, squeeze, tails, lefts-not-after, LR-no}
 
 -- lefts, one more
 AllL-snoc : (ls : Key) (s : Step) → AllL ls → IsL s → AllL (ls ++ s ∷ [])

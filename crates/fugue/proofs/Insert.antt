@@ -1,26 +1,26 @@
 -- The list that is the walk, with the keys (`Good`, §3), and that 01's rule as computed is the rule as stated (L5.1).
-use Prim.Native.Nat.{ℕ, zero, suc, _+_, _<_, _≤_}
+use Prim.Native.Nat.{ℕ, _<_}
 use mathlib.Core.Path.{_≡_, refl, sym, ap, ap₂, subst, subst₂, _∙_}
 use mathlib.Core.Logic.{_⊎_, inl, inr}
 use mathlib.Core.Bool.{Bool, true, false, cond}
-use mathlib.Core.List.{List, [], _∷_, _++_}
+use mathlib.Core.List.{List, []}
 use lib.Dec.{eqb, ltb}
 use borrow.Author.Tests.{lt-ltb, le-ltb, eq-eqb, ne-eqb}
 use native.Mathlib.Omega.{arith}
 use Rattle.span.specs.declared.ids.Id.{Id}
 use Rattle.span.specs.declared.ids.OptId.{OptId}
-use Rattle.span.specs.declared.ids.OptId.the-variants.{Nothing, At}
+use Rattle.span.specs.declared.ids.OptId.the-variants.{Nothing}
 use Rattle.span.specs.declared.span.FugueSpan.{FugueSpan}
 use Rattle.span.specs.Ids.{sameOpt}
 use Rattle.rope.specs.declared.place.Verdict.{Verdict}
-use Rattle.rope.specs.declared.place.Verdict.the-variants.{Stop, Hold, Clear, Keep}
+use Rattle.rope.specs.declared.place.Verdict.the-variants.{Stop, Clear, Keep}
 use Rattle.rope.specs.Place.{memId, hasOl, posOf, prPos, parentRight, byPos, sibling, verdict}
 use Rattle.fugue.specs.Tree.{ref, ol, or, prOf}
 use Rattle.fugue.proofs.Order.{Tri, tlt, teq, tgt}
 use Rattle.fugue.proofs.Keys.{Key, Lt, tri}
 use Rattle.fugue.proofs.Hang.{Hung, PLt, last-of, lastOf}
 use Rattle.fugue.proofs.ScanPlace.{Mem, Sorted, Says, s-hold, s-stopeq, s-cleareq, s-cleargt, s-keep, s-stop}
-use Rattle.fugue.proofs.Tests.{Test, pass, fail, eqb-test, ltb-test, sameOpt-test, memId-test, hasOl-test, pos-none, pos-in, pos-mono}
+use Rattle.fugue.proofs.Tests.{Test, pass, fail, ltb-test, sameOpt-test, memId-test, hasOl-test, pos-none, pos-in, pos-mono}
 
 -- Nothing, or a unit of the list
 abbrev pub In : OptId → List FugueSpan → Type 0

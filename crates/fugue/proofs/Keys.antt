@@ -1,6 +1,5 @@
 -- Path keys (L2.1-L2.4). A unit's place in the walk is decided by the path from the root to it: the order of paths, its laws, and the two laws
 -- of no crossing.
-use Prim.Native.Nat.{ℕ}
 use mathlib.Core.Path.{_≡_, refl, sym, ap, ap₂, subst, _∙_}
 use mathlib.Core.Logic.{_⊎_, inl, inr}
 use mathlib.Core.List.{List, [], _∷_, _++_}

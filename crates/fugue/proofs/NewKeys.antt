@@ -1,8 +1,8 @@
 -- The keys of a new span (L8.3): its first unit hangs as its origins say, each later one right below the one before it. Keys of old units stay.
 use Prim.Native.Nat.{ℕ, zero, suc, _+_, _<_, _≤_}
-use mathlib.Core.Path.{_≡_, refl, sym, ap, ap₂, subst, _∙_}
-use mathlib.Core.Logic.{_⊎_, inl, inr}
-use mathlib.Core.Bool.{Bool, true, false, cond}
+use mathlib.Core.Path.{_≡_, refl, sym, ap, subst, _∙_}
+use mathlib.Core.Logic.{inl, inr}
+use mathlib.Core.Bool.{Bool, cond}
 use mathlib.Core.List.{List, [], _∷_, _++_}
 use native.Mathlib.Omega.{arith}
 use native.Mathlib.Decide.{decLt}
@@ -14,7 +14,7 @@ use Rattle.span.specs.declared.span.FugueSpan.{FugueSpan}
 use Rattle.span.specs.Ids.{incId, sameOpt}
 use Rattle.span.proofs.IdsLaws.{inc-zero}
 use Rattle.rope.specs.Place.{hasOl, parentRight}
-use Rattle.fugue.specs.Tree.{ref, ol, or}
+use Rattle.fugue.specs.Tree.{ref, ol}
 use Rattle.fugue.proofs.Order.{Older, older-no, inc-older, older-inc}
 use Rattle.fugue.proofs.Keys.{Key, sl, sr}
 use Rattle.fugue.proofs.Hang.{Hung, hungR, hungL, Below, below, none≢at}

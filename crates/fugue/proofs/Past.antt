@@ -1,5 +1,5 @@
 -- Independence of what is concurrent (§6): an edit's origins and targets are those that the units that are not future alone give.
-use Prim.Native.Nat.{ℕ, zero, suc, _+_, _<_, _≤_}
+use Prim.Native.Nat.{ℕ, zero, suc, _≤_}
 use mathlib.Core.Path.{_≡_, refl, sym, ap, ap₂, subst, _∙_}
 use mathlib.Core.Logic.{_⊎_, inl, inr}
 use mathlib.Core.Bool.{Bool, true, false, not, _&&_, cond, true≢false}
@@ -7,7 +7,7 @@ use mathlib.Core.List.{List, [], _∷_, List·Memᴰ·head, List·Memᴰ·tail}
 use lib.IntN.{pos}
 use native.Mathlib.Omega.{arith}
 use Rattle.span.specs.declared.ids.OptId.{OptId}
-use Rattle.span.specs.declared.ids.OptId.the-variants.{Nothing, At}
+use Rattle.span.specs.declared.ids.OptId.the-variants.{Nothing}
 use Rattle.span.specs.declared.span.FugueSpan.{FugueSpan}
 use Rattle.span.specs.Status.{activated, eqZ}
 use Rattle.rope.specs.Place.{front, behind, lastId, firstPast, originLeft, originRight, shown}

@@ -1,6 +1,6 @@
 -- The key lemma (Theorem 5): the scan with holding ends exactly at the new unit's place in the order of path keys. It speaks of the rule as 01
 -- states it (`Says`); that the rule as computed says the same is in Insert.
-use Prim.Native.Nat.{ℕ, zero, suc, _+_, _<_, _≤_}
+use Prim.Native.Nat.{ℕ, suc, _+_, _<_, _≤_}
 use mathlib.Core.Path.{_≡_, refl, sym, ap, subst, _∙_}
 use mathlib.Core.Logic.{_⊎_, inl, inr}
 use mathlib.Core.Bool.{Bool, true, false, cond}

@@ -1,5 +1,5 @@
 -- Units sorted by id: a good list is the walk of its units so sorted, and so is a good list into which new units came.
-use Prim.Native.Nat.{ℕ, zero, suc, _<_, _≤_}
+use Prim.Native.Nat.{suc, _<_, _≤_}
 use mathlib.Core.Path.{_≡_, refl, sym, ap, ap₂, subst, _∙_}
 use mathlib.Core.Logic.{_⊎_, inl, inr}
 use mathlib.Core.Bool.{Bool, true, false, _&&_, _||_, cond}
@@ -11,7 +11,7 @@ use lib.Signed.{ltZ}
 use native.Mathlib.Omega.{arith}
 use Rattle.span.specs.declared.ids.Id.{Id}
 use Rattle.span.specs.declared.ids.OptId.{OptId}
-use Rattle.span.specs.declared.ids.OptId.the-variants.{Nothing, At}
+use Rattle.span.specs.declared.ids.OptId.the-variants.{At}
 use Rattle.span.specs.declared.span.FugueSpan.{FugueSpan}
 use Rattle.fugue.specs.Tree.{ref, walk, idBefore, byId, sortId}
 use Rattle.fugue.proofs.Order.{Tri, tlt, teq, tgt, LtZ, LtId, LtId-irrefl, LtId-trans, tri-id}

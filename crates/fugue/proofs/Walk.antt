@@ -1,6 +1,6 @@
 -- A list with rising keys is decided by its members (L3.1, `sorted-unique`); the walk of the tree of a set of units has rising keys and all the
 -- members. So a good list is the walk of its own units (§7, `good-is-walk`).
-use Prim.Native.Nat.{ℕ, zero, suc, _+_, _-_, _<_, _≤_}
+use Prim.Native.Nat.{ℕ, zero, suc, _+_, _-_, _≤_}
 use mathlib.Core.Path.{_≡_, refl, sym, ap, ap₂, subst, subst₂, _∙_}
 use mathlib.Core.Logic.{_⊎_, inl, inr}
 use mathlib.Core.Bool.{Bool, true, false, not, _&&_, cond, true≢false}

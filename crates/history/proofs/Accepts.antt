@@ -1,15 +1,15 @@
 -- What an accepted edit is: from the number 0 back to the conditions that it stands for.
-use Prim.Native.Nat.{ℕ, zero, suc, _+_, _<_, _≤_}
+use Prim.Native.Nat.{ℕ, suc, _<_, _≤_}
 use mathlib.Core.Path.{_≡_, refl, sym, ap, subst, _∙_}
 use mathlib.Core.Logic.{_⊎_, inl, inr}
 use mathlib.Core.Bool.{Bool, true, false, not, _&&_, _||_, cond, true≢false, and-eq-true-iff}
-use mathlib.Core.List.{List, [], _∷_, _++_, map, List·Memᴰ, List·Memᴰ·head, List·Memᴰ·tail, List·Memᴰ·not-nil, Memᴰ·of-map}
+use mathlib.Core.List.{List, [], _∷_, Memᴰ·of-map}
 use native.Mathlib.Omega.{arith}
 use lib.Dec.{eqb, leb, ltb}
 use lib.IntN.{ℤ, pos, negsuc}
 use lib.Signed.{leZ}
 use lib.ListN.{length}
-use borrow.Author.Tests.{leb-true, ne-eqb}
+use borrow.Author.Tests.{leb-true}
 use Rattle.span.specs.declared.ids.OptId.{OptId}
 use Rattle.span.specs.declared.ids.OptId.the-variants.{At}
 use Rattle.span.specs.Ids.{UNKNOWN-PEER, roomOpt}
@@ -20,13 +20,13 @@ use Rattle.rope.specs.Lists.{every}
 use Rattle.fugue.proofs.Keys.{Key}
 use Rattle.fugue.proofs.Tests.{Test, pass, fail, eqb-test}
 use Rattle.fugue.proofs.Clocks.{cnt, Fits}
-use Rattle.history.specs.Edit.{Count, Version, Edit, size, Held, History}
-use Rattle.history.specs.Version.{number, countOf, below, heldCount, rising, isHeld, named, closedFor, closed}
+use Rattle.history.specs.Edit.{Version, Edit, size, Held, History}
+use Rattle.history.specs.Version.{number, countOf, heldCount, rising, isHeld, named, closedFor, closed}
 use Rattle.history.specs.Checkout.{unitsAt}
 use Rattle.history.specs.Valid.{actFormed, actIds, hasPeer, peerCount, ownCount, editCode, valid}
 use Rattle.history.specs.Codes.{onUnits, stored, inside, arrivalFits, arriveCode}
 use Rattle.history.specs.Demand.{InSet, firstOf}
-use Rattle.history.proofs.Context.{count, holds, clock, Known, holds-known, count-known, count-unknown, Natural, lt-below, holder, base}
+use Rattle.history.proofs.Context.{count, holds, clock, Known, holds-known, count-known, count-unknown, Natural, lt-below, base}
 use Rattle.history.proofs.Run.{MemE, MemH, Run}
 use Rattle.history.proofs.Arrive.{Arriving}
 use Rattle.history.proofs.Sets.{room-known, formed-some, countOf-le, closed-within, base-is}

@@ -1,9 +1,9 @@
 -- One edit arrives, then all: the invariant is kept (Theorem 8a).
-use Prim.Native.Nat.{ℕ, zero, suc, _+_, _-_, _<_, _≤_}
+use Prim.Native.Nat.{ℕ, suc, _+_, _-_, _<_, _≤_}
 use mathlib.Core.Path.{_≡_, refl, sym, ap, ap₂, subst, subst₂, _∙_}
 use mathlib.Core.Logic.{_⊎_, inl, inr}
 use mathlib.Core.Bool.{Bool, true, false, cond}
-use mathlib.Core.List.{List, [], _∷_, _++_, map, List·Memᴰ·head, List·Memᴰ·tail, List·Memᴰ·not-nil, List·Memᴰ·cases-cons, List·Memᴰ·append-cases, Memᴰ·append-left, Memᴰ·append-right, List·Memᴰ·eq-of-singleton, Memᴰ·map, Memᴰ·of-map, Memᴰ·cast}
+use mathlib.Core.List.{List, [], _∷_, _++_, map, List·Memᴰ·head, List·Memᴰ·tail, List·Memᴰ·cases-cons, List·Memᴰ·append-cases, Memᴰ·append-left, Memᴰ·append-right, List·Memᴰ·eq-of-singleton, Memᴰ·of-map, Memᴰ·cast}
 use lib.ListN.{length, length-map}
 use lib.Dec.{eqb}
 use native.Mathlib.Omega.{arith}
@@ -21,30 +21,30 @@ use Rattle.span.specs.Units as Units
 use Rattle.span.proofs.ForRope.{units-length}
 use Rattle.rope.specs.Place.{parentRight, originLeft, originRight, withOrigins, insertUnits, shown}
 use Rattle.rope.specs.Change.{withState, deleteUnits}
-use Rattle.fugue.specs.Tree.{ref, ol, or}
+use Rattle.fugue.specs.Tree.{ref}
 use Rattle.fugue.proofs.Order.{Older}
 use Rattle.fugue.proofs.Keys.{Key}
 use Rattle.fugue.proofs.ScanPlace.{Mem}
 use Rattle.fugue.proofs.Insert.{In, Good, pr-in}
 use Rattle.fugue.proofs.InsertGood.{insert-good}
 use Rattle.fugue.proofs.Past.{pastOf, originLeft-in}
-use Rattle.fugue.proofs.Alike.{Same, alike-map, alike-length, good-alike}
+use Rattle.fugue.proofs.Alike.{alike-map, alike-length, good-alike}
 use Rattle.fugue.proofs.NewKeys.{spanKey, spanKey-length, firstKey, firstKey-length, keyOf, keyOf-old, keyOf-new, good-new, hung-new, hungs-new}
 use Rattle.fugue.proofs.Sorts.{Splice}
 use Rattle.fugue.proofs.Splices.{insert-splice, splice-from, splice-old, splice-new, splice-length, unit-from, unit-in}
-use Rattle.fugue.proofs.Clocks.{cnt, Fits, Causal, in-range, cnt-grow, cnt-own}
-use Rattle.fugue.proofs.Counting.{NoTwice, noTwice-snoc}
-use Rattle.history.specs.Edit.{Version, Act, Insert, Delete, Edit, sizeOf, Range, Held, History}
-use Rattle.history.specs.Version.{number, countOf, below}
+use Rattle.fugue.proofs.Clocks.{cnt, Fits, Causal, in-range, cnt-grow}
+use Rattle.fugue.proofs.Counting.{noTwice-snoc}
+use Rattle.history.specs.Edit.{Version, Act, Insert, Delete, Edit, sizeOf, Held, History}
+use Rattle.history.specs.Version.{number, countOf}
 use Rattle.history.specs.Checkout.{unitsAt}
 use Rattle.history.specs.Checkout as Co
 use Rattle.history.specs.Arrive.{actList, actTook, tookBy, hold, arrive}
 use Rattle.history.specs.Codes.{inside}
 use Rattle.history.specs.Demand.{realPlain}
-use Rattle.history.proofs.Plain.{plain, plain-same, plain-at, at-same, view, sees}
-use Rattle.history.proofs.Context.{count, holds, clock, Known, before, known-or, holds-known, count-known, before-known, before-unknown, Natural, natural-inc, not-below}
-use Rattle.history.proofs.Run.{MemE, MemH, num, first, spanOf, Made, made-id, made-peer, Src, Run, inside-at, unit-natural, bound, context-closed}
-use Rattle.history.proofs.Stable.{plain-list-at, view-list, plain-alike, plain-mem, Real, plain-deletes, view-skip, view-splice, shown-sees, left-sees, right-sees, took-sees, inside-sees}
+use Rattle.history.proofs.Plain.{plain, plain-same, at-same, view, sees}
+use Rattle.history.proofs.Context.{holds, clock, Known, before, known-or, holds-known, count-known, before-known, before-unknown, Natural, natural-inc, not-below}
+use Rattle.history.proofs.Run.{MemE, MemH, num, first, spanOf, Made, made-peer, Src, Run, inside-at, unit-natural, bound, context-closed}
+use Rattle.history.proofs.Stable.{plain-list-at, view-list, plain-alike, plain-mem, Real, plain-deletes, view-skip, view-splice, left-sees, right-sees, took-sees, inside-sees}
 
 -- an edit arrives at a history: known, its counter a number, its counter and context fit, it has a unit, its position is inside what is visible at its context
 pub record Arriving (n : ℕ) (done : List Edit) (h : History) (e : Edit) : Type 0 where

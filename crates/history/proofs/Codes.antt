@@ -1,29 +1,28 @@
 -- An edit of a well formed set that arrives is refused for nothing that the edits held say: 1, 2, 4, 5, 6, 7.
-use Prim.Native.Nat.{ℕ, zero, suc, _+_, _<_, _≤_}
+use Prim.Native.Nat.{ℕ, suc, _+_, _<_, _≤_}
 use mathlib.Core.Path.{_≡_, refl, sym, ap, ap₂, subst, _∙_}
 use mathlib.Core.Logic.{_⊎_, inl, inr}
 use mathlib.Core.Bool.{Bool, true, false, not, _&&_, _||_, cond, true≢false, and-eq-true-iff}
-use mathlib.Core.List.{List, [], _∷_, _++_, map, List·Memᴰ, List·Memᴰ·head, List·Memᴰ·tail, List·Memᴰ·not-nil, List·Memᴰ·cases-cons, Memᴰ·map}
+use mathlib.Core.List.{List, [], _∷_, List·Memᴰ, List·Memᴰ·not-nil, List·Memᴰ·cases-cons}
 use native.Mathlib.Omega.{arith}
-use lib.Dec.{eqb, leb, ltb}
+use lib.Dec.{eqb, leb}
 use lib.IntN.{ℤ, pos, negsuc, _+ℤ_}
 use lib.Signed.{leZ}
-use borrow.Author.Tests.{eq-eqb, le-leb, lt-leb, ltb-true, leb-true}
+use borrow.Author.Tests.{le-leb, lt-leb, ltb-true, leb-true}
 use Rattle.span.specs.declared.ids.OptId.the-variants.{At}
 use Rattle.span.specs.Ids.{UNKNOWN-PEER, roomOpt}
 use Rattle.span.specs.Status.{eqZ}
 use Rattle.span.proofs.StatusLaws.{eqZ-refl}
 use Rattle.rope.specs.Limits.{PEERS}
 use Rattle.rope.specs.Lists.{every, some}
-use Rattle.rope.specs.Codes.{unless}
 use Rattle.fugue.proofs.Tests.{Test, pass, fail, eqb-test}
-use Rattle.fugue.proofs.Clocks.{cnt, Fits, in-range}
-use Rattle.history.specs.Edit.{Count, Version, Act, Insert, Delete, Edit, sizeOf, size, Held, History}
+use Rattle.fugue.proofs.Clocks.{cnt, Fits}
+use Rattle.history.specs.Edit.{Count, Version, Act, Insert, Delete, Edit, sizeOf, size, Held}
 use Rattle.history.specs.Version.{number, countOf, below, heldCount, above, rising, isHeld, named, within, wholeAct, closedFor, closed}
 use Rattle.history.specs.Valid.{actFormed, actIds, hasPeer, peerCount, ownCount, editCode}
 use Rattle.history.specs.Demand.{InSet, firstOf, IdOf, counted, WellFormedSet, peers, sum}
-use Rattle.history.proofs.Context.{count, holds, clock, Known, holds-known, count-known, Natural}
-use Rattle.history.proofs.Run.{MemE, MemH}
+use Rattle.history.proofs.Context.{clock, Known, holds-known, count-known, Natural}
+use Rattle.history.proofs.Run.{MemH}
 use Rattle.history.proofs.Sets.{sound}
 use Rattle.history.proofs.Valid.{every-of, arrived}
 

@@ -1,40 +1,38 @@
 -- Two histories, the first's edits among the second's: whatever version the first holds, they show the same units in it (Theorem 8b). The induction is along
 -- the first history's own order.
-use Prim.Native.Nat.{ℕ, zero, suc, _+_, _-_, _<_, _≤_}
+use Prim.Native.Nat.{ℕ, zero, suc, _+_, _<_, _≤_}
 use mathlib.Core.Path.{_≡_, refl, sym, ap, ap₂, subst, subst₂, _∙_}
 use mathlib.Core.Logic.{_⊎_, inl, inr}
-use mathlib.Core.Bool.{Bool, true, false, not, _&&_, cond, true≢false, and-eq-true-iff}
-use mathlib.Core.List.{List, [], _∷_, _++_, map, List·Memᴰ·head, List·Memᴰ·tail, List·Memᴰ·not-nil, List·Memᴰ·cases-cons, Memᴰ·map, Memᴰ·of-map, Memᴰ·cast}
+use mathlib.Core.Bool.{Bool, true, false, _&&_, cond, and-eq-true-iff}
+use mathlib.Core.List.{List, [], _∷_, _++_, map, List·Memᴰ·head, List·Memᴰ·tail, List·Memᴰ·not-nil, List·Memᴰ·cases-cons, Memᴰ·map, Memᴰ·cast}
 use native.Mathlib.Omega.{arith}
 use native.Mathlib.Decide.{decLt}
-use Rattle.span.specs.declared.chunk.RichtextChunk.{RichtextChunk}
 use Rattle.span.specs.declared.ids.Id.{Id}
 use Rattle.span.specs.declared.ids.OptId.{OptId}
 use Rattle.span.specs.declared.ids.OptId.the-variants.{Nothing, At}
 use Rattle.span.specs.declared.span.FugueSpan.{FugueSpan}
-use Rattle.span.specs.Chunk.{lenOf}
 use Rattle.span.specs.Ids.{UNKNOWN-PEER, incId}
 use Rattle.span.specs.Status.{activated}
 use Rattle.span.specs.Units as Units
 use Rattle.rope.specs.Lists.{keepIf}
-use Rattle.rope.specs.Place.{hasOl, parentRight, front, behind, lastId, firstPast, originLeft, originRight}
+use Rattle.rope.specs.Place.{hasOl, parentRight, behind, firstPast, originLeft, originRight}
 use Rattle.fugue.specs.Tree.{ref, ol, or, prOf}
 use Rattle.fugue.proofs.Keys.{Key, sl, sr}
 use Rattle.fugue.proofs.Hang.{Hung, hungR, hungL, none≢at}
 use Rattle.fugue.proofs.ScanPlace.{Mem, Sorted}
 use Rattle.fugue.proofs.Tests.{Test, pass, fail, hasOl-test}
-use Rattle.fugue.proofs.Insert.{In, Good}
-use Rattle.fugue.proofs.Past.{notFuture, pastOf, originLeft-in}
+use Rattle.fugue.proofs.Insert.{In}
+use Rattle.fugue.proofs.Past.{notFuture, originLeft-in}
 use Rattle.fugue.proofs.Alike.{Same, alike-map, sorted-alike, sorted-key}
 use Rattle.fugue.proofs.Walk.{keepIf-in, keepIf-keeps, sorted-unique, sorted-uniq}
 use Rattle.fugue.proofs.Counting.{countIf, count-same}
 use Rattle.fugue.proofs.Clocks.{cnt, Fits, Causal, in-range, disjoint, Covers, cover}
-use Rattle.history.specs.Edit.{Version, Act, Insert, Delete, Edit, sizeOf, Range, Held, History}
-use Rattle.history.specs.Version.{number, countOf, below}
+use Rattle.history.specs.Edit.{Version, Insert, Edit, sizeOf, Held, History}
+use Rattle.history.specs.Version.{number, below}
 use Rattle.history.specs.Checkout.{inRanges, deletesIn}
 use Rattle.history.specs.Arrive.{actTook}
 use Rattle.history.proofs.Plain.{plain, plain-same, view, view-same, view-plain, sees}
-use Rattle.history.proofs.Context.{count, holds, clock, Known, before, known-or, holds-known, count-known, before-known, before-unknown, Natural, natural-inc, below-lt}
+use Rattle.history.proofs.Context.{count, clock, Known, before, known-or, holds-known, count-known, before-known, before-unknown, Natural, natural-inc, below-lt}
 use Rattle.history.proofs.Run.{MemE, MemH, num, first, spanOf, Made, made-id, made-first, made-later, made-right, made-peer, made-num, made-small, Src, Run, inside-at, seen-from}
 
 -- ---- small facts

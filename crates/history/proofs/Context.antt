@@ -3,25 +3,23 @@ use Prim.Native.Nat.{ℕ, zero, suc, _+_, _<_, _≤_}
 use mathlib.Core.Path.{_≡_, refl, sym, ap, ap₂, subst, _∙_}
 use mathlib.Core.Logic.{_⊎_, inl, inr}
 use mathlib.Core.Bool.{Bool, true, false, not, _||_, cond, true≢false}
-use mathlib.Core.List.{List, [], _∷_, _++_, map, List·Memᴰ, List·Memᴰ·head, List·Memᴰ·not-nil, List·Memᴰ·cases-cons}
+use mathlib.Core.List.{List, [], _∷_}
 use native.Mathlib.Omega.{arith}
 use native.Mathlib.Decide.{decLt}
 use lib.Dec.{eqb, ltb}
-use lib.IntN.{ℤ, pos, negsuc, _+ℤ_}
+use lib.IntN.{ℤ, pos, _+ℤ_}
 use lib.Signed.{ltZ}
 use borrow.Author.Tests.{lt-ltb, le-ltb, ltb-true, ne-eqb}
 use Rattle.span.specs.declared.ids.Id.{Id}
 use Rattle.span.specs.declared.span.FugueSpan.{FugueSpan}
 use Rattle.span.specs.Chunk.{UNKNOWN, chunk, lenOf, shapeOf}
 use Rattle.span.specs.Ids.{UNKNOWN-PEER, id, incId}
-use Rattle.rope.specs.Change.{withState}
 use Rattle.fugue.proofs.Tests.{Test, pass, fail, eqb-test}
-use Rattle.fugue.proofs.Clocks.{Clock, cnt, Fits, Causal}
-use Rattle.history.specs.Edit.{Version, Act, Insert, Delete, Edit, sizeOf, size, Held, History}
+use Rattle.fugue.proofs.Clocks.{Clock}
+use Rattle.history.specs.Edit.{Version, Insert, Edit, size, Held, History}
 use Rattle.history.specs.Version.{number, countOf, below, inVersion}
 use Rattle.history.specs.Checkout.{statusAt}
-use Rattle.history.specs.Checkout as Co
-use Rattle.history.proofs.Plain.{view, sees}
+use Rattle.history.proofs.Plain.{sees}
 
 -- a peer's count in a version; the placeholder's n units are in every one
 unfoldable pub count : ℕ → Version → ℕ → ℕ

@@ -1,39 +1,36 @@
 -- Arrival orders of one set of edits are accepted alike and converge, and the list is the walk (Theorems 8c, 8d), on units.
-use Prim.Native.Nat.{ℕ, zero, suc, _+_, _<_, _≤_}
-use mathlib.Core.Path.{_≡_, refl, sym, ap, ap₂, subst, _∙_}
+use Prim.Native.Nat.{ℕ, _+_, _<_, _≤_}
+use mathlib.Core.Path.{_≡_, refl, sym, ap, subst, _∙_}
 use mathlib.Core.Logic.{_⊎_, inl, inr}
-use mathlib.Core.Bool.{Bool, true, false, not, cond}
-use mathlib.Core.List.{List, [], _∷_, _++_, map, List·Memᴰ·head, List·Memᴰ·tail, List·Memᴰ·not-nil, List·Memᴰ·cases-cons, Memᴰ·of-map, Memᴰ·cast}
+use mathlib.Core.Bool.{Bool, false, not, cond}
+use mathlib.Core.List.{List, [], _∷_, map, List·Memᴰ·head, List·Memᴰ·tail, List·Memᴰ·cases-cons, Memᴰ·of-map, Memᴰ·cast}
 use lib.ListN.{length, length-map}
 use native.Mathlib.Omega.{arith}
-use Rattle.span.specs.declared.ids.Id.{Id}
 use Rattle.span.specs.declared.ids.OptId.{OptId}
-use Rattle.span.specs.declared.ids.OptId.the-variants.{At}
 use Rattle.span.specs.declared.span.FugueSpan.{FugueSpan}
 use Rattle.span.specs.Span.{newSpan}
 use Rattle.rope.specs.Lists.{keepIf}
-use Rattle.rope.specs.Place.{originLeft, originRight, withOrigins, insertUnits}
+use Rattle.rope.specs.Place.{insertUnits}
 use Rattle.rope.specs.Change.{withState}
 use Rattle.fugue.specs.Tree.{ref, walk, sortId}
 use Rattle.fugue.proofs.Keys.{Key}
 use Rattle.fugue.proofs.ScanPlace.{Mem}
 use Rattle.fugue.proofs.Insert.{Good}
-use Rattle.fugue.proofs.Past.{notFuture, pastOf}
-use Rattle.fugue.proofs.Alike.{Same, alike-map, good-alike}
+use Rattle.fugue.proofs.Past.{pastOf}
+use Rattle.fugue.proofs.Alike.{alike-map, good-alike}
 use Rattle.fugue.proofs.Sorts.{good-walk, splice-walk}
 use Rattle.fugue.proofs.Splices.{insert-splice}
-use Rattle.fugue.proofs.Clocks.{cnt, Fits, Causal, in-range, doneOf, todo-in, in-todo, Order}
-use Rattle.history.specs.Edit.{Version, Act, Insert, Delete, Edit, sizeOf, Held, History}
-use Rattle.history.specs.Version.{number}
-use Rattle.history.specs.Checkout.{statusAt, unitsAt}
+use Rattle.fugue.proofs.Clocks.{cnt, in-range, doneOf, Order}
+use Rattle.history.specs.Edit.{Version, Act, Insert, Delete, Edit, sizeOf, History}
+use Rattle.history.specs.Checkout.{unitsAt}
 use Rattle.history.specs.Checkout as Co
-use Rattle.history.specs.Arrive.{actList, listAfter, hold, arrive, replay}
+use Rattle.history.specs.Arrive.{actList, hold, arrive, replay}
 use Rattle.history.specs.Tree.{hung, treeList, treeArrive, treeReplay}
 use Rattle.history.specs.Codes.{inside}
 use Rattle.history.specs.Demand.{Inside}
-use Rattle.history.proofs.Plain.{view, view-same, at-same, sees}
+use Rattle.history.proofs.Plain.{view, at-same, sees}
 use Rattle.history.proofs.Context.{count, clock, Known, Natural, past-of, before-known, holds-known}
-use Rattle.history.proofs.Run.{MemE, num, first, Made, made-peer, made-num, made-small, Src, Run, bound, unit-natural}
+use Rattle.history.proofs.Run.{MemE, first, Run, bound, unit-natural}
 use Rattle.history.proofs.Stable.{inside-sees}
 use Rattle.history.proofs.Arrive.{Arriving, run-arrive}
 use Rattle.history.proofs.Compare.{versions-same}

@@ -1,22 +1,19 @@
 -- THE DEMAND. From a well formed set of edits within the limits, each position inside what is visible at its context, and an empty or placeholder list with room:
 -- every arrival order that puts an edit after its context is accepted throughout, and checked out at the whole set it gives the units of the tree built from the
 -- set alone, in its order, which is the walk of the tree; real ids of placeholder units excepted.
-use Prim.Native.Nat.{ℕ, zero, suc, _+_, _<_, _≤_}
-use mathlib.Core.Path.{_≡_, refl, sym, ap, ap₂, subst, _∙_}
-use mathlib.Core.Logic.{_⊎_, inl, inr}
-use mathlib.Core.Bool.{Bool, true, false, _&&_, cond}
-use mathlib.Core.List.{List, [], _∷_, _++_, map, List·Memᴰ, Memᴰ·map}
+use Prim.Native.Nat.{ℕ, _+_, _≤_}
+use mathlib.Core.Path.{_≡_, refl, sym, ap, _∙_}
+use mathlib.Core.Bool.{Bool, true, cond}
+use mathlib.Core.List.{List, [], map, List·Memᴰ}
 use native.Mathlib.Omega.{arith}
 use lib.Dec.{eqb, leb}
 use lib.ListN.{length, length-map}
 use borrow.Author.Tests.{le-leb}
 use Rattle.span.specs.declared.ids.OptId.{OptId}
-use Rattle.span.specs.declared.span.FugueSpan.{FugueSpan}
 use Rattle.span.specs.Ids.{UNKNOWN-PEER}
 use Rattle.span.specs.Units.{expand, join}
 use Rattle.span.proofs.Unique.{expand-join}
-use Rattle.rope.specs.Limits.{UNITS, fits}
-use Rattle.fugue.specs.Tree.{walk, sortId}
+use Rattle.rope.specs.Limits.{fits}
 use Rattle.fugue.proofs.Keys.{Key}
 use Rattle.fugue.proofs.Tests.{Test, pass, fail, eqb-test}
 use Rattle.fugue.proofs.Clocks.{cnt, doneOf, in-range}
@@ -25,17 +22,17 @@ use Rattle.history.specs.Version.{number, countOf, heldCount, named, clo
 use Rattle.history.specs.Checkout.{unitsAt, checkout}
 use Rattle.history.specs.Checkout as Co
 use Rattle.history.specs.Arrive.{start, replay}
-use Rattle.history.specs.Tree.{sortRank, treeOf}
+use Rattle.history.specs.Tree.{sortRank}
 use Rattle.history.specs.Valid.{valid}
 use Rattle.history.specs.Codes.{onUnits, stored, made, checkoutCode, checkoutOf}
-use Rattle.history.specs.Demand.{InSet, firstOf, WellFormedSet, Inside, Limits, ArrivalOrder, arriveAll, wholeOf, noReal, sum, Promise}
-use Rattle.history.proofs.Context.{count, holds, clock, Known, holds-known, count-known, count-unknown, base}
-use Rattle.history.proofs.Run.{MemE, MemH, Run}
+use Rattle.history.specs.Demand.{InSet, firstOf, WellFormedSet, Inside, Limits, ArrivalOrder, wholeOf, noReal, sum, Promise}
+use Rattle.history.proofs.Context.{count, clock, holds-known, count-known, count-unknown, base}
+use Rattle.history.proofs.Run.{MemH, Run}
 use Rattle.history.proofs.Start.{run-start}
 use Rattle.history.proofs.OnUnits.{arrives, run, units-same, tree-walk}
 use Rattle.history.proofs.Sets.{sound, some-of}
 use Rattle.history.proofs.WellUnits.{units-at, all-of, join-length}
-use Rattle.history.proofs.Valid.{arrived, Store, read-back}
+use Rattle.history.proofs.Valid.{Store, read-back}
 use Rattle.history.proofs.Codes.{named-of, pair-some, pair-known, held-sum, closed-whole}
 use Rattle.history.proofs.Whole.{Whole, whole-of}
 use Rattle.history.proofs.Stored.{totals, no-15, held-in, Done, all-done, store-start}

@@ -1,21 +1,18 @@
 -- Demand 3 on units (Theorem 9): every arrival order of the set arrives throughout, and at the whole set shows what the tree built from the set alone shows.
-use Prim.Native.Nat.{ℕ, zero, suc, _+_, _<_, _≤_}
-use mathlib.Core.Path.{_≡_, refl, sym, ap, subst, _∙_}
+use Prim.Native.Nat.{ℕ}
+use mathlib.Core.Path.{_≡_, sym, ap, subst, _∙_}
 use mathlib.Core.Logic.{_⊎_, inl, inr}
-use mathlib.Core.List.{List, [], _∷_, _++_, map, List·Memᴰ·not-nil, List·Memᴰ·append-cases, Memᴰ·append-left, Memᴰ·append-right}
-use native.Mathlib.Omega.{arith}
+use mathlib.Core.List.{List, [], _∷_, _++_, map, List·Memᴰ·append-cases}
 use Rattle.span.specs.declared.ids.OptId.{OptId}
-use Rattle.span.specs.declared.span.FugueSpan.{FugueSpan}
 use Rattle.fugue.specs.Tree.{walk, sortId}
 use Rattle.fugue.proofs.Keys.{Key}
 use Rattle.fugue.proofs.Clocks.{cnt, doneOf, done-in, todo-in, in-todo, Order}
-use Rattle.history.specs.Edit.{Version, Edit, size, History}
-use Rattle.history.specs.Version.{countOf}
+use Rattle.history.specs.Edit.{Version, Edit, History}
 use Rattle.history.specs.Checkout.{unitsAt}
 use Rattle.history.specs.Arrive.{start, replay}
-use Rattle.history.specs.Tree.{sortRank, treeReplay, treeOf}
-use Rattle.history.specs.Demand.{InSet, firstOf, WellFormedSet, Inside, ArrivalOrder, noReal}
-use Rattle.history.proofs.Plain.{view, view-at}
+use Rattle.history.specs.Tree.{sortRank, treeOf}
+use Rattle.history.specs.Demand.{InSet, WellFormedSet, Inside, ArrivalOrder, noReal}
+use Rattle.history.proofs.Plain.{view-at}
 use Rattle.history.proofs.Context.{count, clock, base}
 use Rattle.history.proofs.Run.{MemE, Run}
 use Rattle.history.proofs.Start.{run-start}

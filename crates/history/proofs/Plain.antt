@@ -1,9 +1,9 @@
 -- What of a unit never changes: all but its statuses, and the real id of a placeholder unit. What a version shows is made of that alone, and
 -- no origin or target depends on more.
-use Prim.Native.Nat.{ℕ, zero, suc, _<_, _≤_}
-use mathlib.Core.Path.{_≡_, refl, sym, ap, ap₂, subst, _∙_}
+use Prim.Native.Nat.{ℕ, zero, suc}
+use mathlib.Core.Path.{_≡_, refl, ap, ap₂, _∙_}
 use mathlib.Core.Bool.{Bool, true, false, not, cond}
-use mathlib.Core.List.{List, [], _∷_, _++_, map}
+use mathlib.Core.List.{List, [], _∷_, map}
 use lib.Dec.{eqb}
 use lib.IntN.{pos}
 use Rattle.span.specs.declared.ids.Id.{Id}
@@ -17,12 +17,12 @@ use Rattle.span.specs.Status.{status, activated}
 use Rattle.rope.specs.Lists.{keepIf}
 use Rattle.rope.specs.Place.{front, behind, lastId, firstPast, originLeft, originRight, shown}
 use Rattle.rope.specs.Change.{withState, firstShown, taken}
-use Rattle.fugue.specs.Tree.{ref, ol, or}
-use Rattle.fugue.proofs.Past.{notFuture, pastOf}
+use Rattle.fugue.specs.Tree.{ol, or}
+use Rattle.fugue.proofs.Past.{pastOf}
 use Rattle.fugue.proofs.Alike.{Same}
 use Rattle.history.specs.Edit.{Version, Held, History}
 use Rattle.history.specs.Version.{inVersion}
-use Rattle.history.specs.Checkout.{deletesIn, statusAt, unitsAt}
+use Rattle.history.specs.Checkout.{deletesIn, statusAt}
 use Rattle.history.specs.Checkout as Co
 use Rattle.history.specs.Demand.{realPlain, noReal}
 

@@ -1,13 +1,13 @@
 -- Histories made by history calls from their start: the list is the walk, checkouts and deletes move nothing, delete counts stay within i16, and 12 is never given.
-use Prim.Native.Nat.{ℕ, zero, suc, _+_, _<_, _≤_}
-use mathlib.Core.Path.{_≡_, refl, sym, ap, ap₂, subst, _∙_}
+use Prim.Native.Nat.{ℕ, zero, suc, _<_, _≤_}
+use mathlib.Core.Path.{_≡_, refl, sym, ap, subst, _∙_}
 use mathlib.Core.Logic.{_⊎_, inl, inr}
-use mathlib.Core.Bool.{Bool, true, false, not, _&&_, cond, true≢false, and-eq-true-iff}
-use mathlib.Core.List.{List, [], _∷_, _++_, map, List·Memᴰ·head, List·Memᴰ·tail, List·Memᴰ·not-nil, Memᴰ·map, Memᴰ·of-map}
+use mathlib.Core.Bool.{Bool, true, false, not, _&&_, cond, and-eq-true-iff}
+use mathlib.Core.List.{List, [], _∷_, _++_, map, List·Memᴰ·not-nil}
 use native.Mathlib.Omega.{arith}
 use lib.Dec.{eqb, leb, ltb}
 use lib.IntN.{pos}
-use lib.ListN.{length, length-append, length-map}
+use lib.ListN.{length, length-append}
 use lib.Signed.{mag}
 use borrow.Author.Tests.{leb-true, ltb-true, lt-ltb, ne-eqb}
 use Rattle.span.specs.declared.chunk.RichtextChunk.{RichtextChunk}
@@ -18,9 +18,8 @@ use Rattle.span.specs.declared.span.FugueSpan.{FugueSpan}
 use Rattle.span.specs.Chunk.{lenOf}
 use Rattle.span.specs.Ids.{incId}
 use Rattle.span.specs.Status.{activated, inI16}
-use Rattle.span.specs.Units.{expand, join}
+use Rattle.span.specs.Units.{expand}
 use Rattle.span.specs.Units as Units
-use Rattle.span.proofs.Unique.{expand-join}
 use Rattle.rope.specs.Limits.{UNITS, EDITS, fits}
 use Rattle.rope.specs.Lists.{every}
 use Rattle.rope.specs.Place.{front, behind}
@@ -34,7 +33,7 @@ use Rattle.fugue.proofs.ScanPlace.{Mem}
 use Rattle.fugue.proofs.Range.{front-behind}
 use Rattle.fugue.proofs.Past.{pastOf}
 use Rattle.fugue.proofs.Alike.{alike-length, good-alike}
-use Rattle.history.specs.Edit.{Version, Act, Insert, Edit, Held, History}
+use Rattle.history.specs.Edit.{Version, Insert, Edit, Held, History}
 use Rattle.history.specs.Version.{below}
 use Rattle.history.specs.Checkout.{inRanges, deletesIn, statusAt, unitsAt, checkout}
 use Rattle.history.specs.Checkout as Co
@@ -42,14 +41,14 @@ use Rattle.history.specs.Arrive.{start, hold, arrive, actTook}
 use Rattle.history.specs.Deltas.{spansBetween}
 use Rattle.history.specs.Codes.{onUnits, stored, inside, openCode, arriveCode, arriveOf, checkoutCode, checkoutOf, deltaCode, deltaOf}
 use Rattle.history.specs.ByCalls.{ByCalls, opened, edited, checkedOut, compared}
-use Rattle.history.proofs.Plain.{plain, plain-same, view, sees}
+use Rattle.history.proofs.Plain.{plain, plain-same}
 use Rattle.history.proofs.Context.{Known, before, known-or, before-known, before-unknown, base}
-use Rattle.history.proofs.Run.{MemE, MemH, spanOf, Made, Src, Run}
+use Rattle.history.proofs.Run.{MemE, MemH, spanOf, Src, Run}
 use Rattle.history.proofs.Start.{run-start}
-use Rattle.history.proofs.Stable.{plain-list-at, view-list, plain-alike, plain-mem, Real}
+use Rattle.history.proofs.Stable.{plain-list-at, view-list, plain-alike, plain-mem}
 use Rattle.history.proofs.Arrive.{Arriving, run-arrive, real}
 use Rattle.history.proofs.Converge.{list-is-walk}
-use Rattle.history.proofs.WellUnits.{Units1, units-at, all-of}
+use Rattle.history.proofs.WellUnits.{units-at}
 use Rattle.history.proofs.Valid.{Store, read-back}
 use Rattle.history.proofs.Stored.{store-next, store-start}
 use Rattle.history.proofs.Accepts.{Five, parts, formed-e, ids-e, arriving}

@@ -1,12 +1,10 @@
 -- 12 never arises in a history made by calls: whatever a delete took has a real id, so what a delta inserts has one.
-use Prim.Native.Nat.{ℕ, zero, suc, _+_, _<_, _≤_}
-use mathlib.Core.Path.{_≡_, refl, sym, ap, ap₂, subst, _∙_}
+use Prim.Native.Nat.{ℕ, zero, suc, _<_}
+use mathlib.Core.Path.{_≡_, refl, sym, ap, subst, _∙_}
 use mathlib.Core.Logic.{_⊎_, inl, inr}
 use mathlib.Core.Bool.{Bool, true, false, not, _&&_, _||_, cond, true≢false, and-eq-true-iff}
-use mathlib.Core.List.{List, [], _∷_, _++_, map, List·Memᴰ, List·Memᴰ·head, List·Memᴰ·tail, List·Memᴰ·not-nil, List·Memᴰ·cases-cons, List·Memᴰ·append-cases, Memᴰ·append-left, Memᴰ·append-right, List·Memᴰ·eq-of-singleton, Memᴰ·map, Memᴰ·of-map, Memᴰ·cast}
-use native.Mathlib.Omega.{arith}
+use mathlib.Core.List.{List, [], _∷_, _++_, map, List·Memᴰ, List·Memᴰ·head, List·Memᴰ·tail, List·Memᴰ·not-nil, List·Memᴰ·cases-cons, List·Memᴰ·append-cases, Memᴰ·append-left, Memᴰ·append-right, List·Memᴰ·eq-of-singleton, Memᴰ·of-map}
 use lib.Dec.{eqb}
-use lib.IntN.{pos, _+ℤ_}
 use borrow.Author.Tests.{ne-eqb, eqb-false}
 use Rattle.span.specs.declared.chunk.RichtextChunk.{RichtextChunk}
 use Rattle.span.specs.declared.ids.Id.{Id}
@@ -15,7 +13,7 @@ use Rattle.span.specs.declared.ids.OptId.the-variants.{Nothing, At}
 use Rattle.span.specs.declared.span.FugueSpan.{FugueSpan}
 use Rattle.span.specs.Ids.{UNKNOWN-PEER, incId, incOpt}
 use Rattle.span.proofs.IdsLaws.{incOpt-zero}
-use Rattle.span.specs.Status.{status, activated, eqZ}
+use Rattle.span.specs.Status.{status, activated}
 use Rattle.span.specs.declared.span.DiffStatus.the-variants.{NotChanged, Created, Deleted}
 use Rattle.span.specs.Span.{idsOk, spanCode, newSpan, realNew, shift, diffOf}
 use Rattle.span.proofs.SpanLaws.{span-ok}
@@ -40,10 +38,10 @@ use Rattle.history.specs.Checkout as Co
 use Rattle.history.specs.Arrive.{actList, actTook, tookBy, hold, arrive}
 use Rattle.history.specs.Deltas.{spansBetween}
 use Rattle.history.proofs.Plain.{at-same}
-use Rattle.history.proofs.Context.{Known, Natural}
+use Rattle.history.proofs.Context.{Natural}
 use Rattle.history.proofs.Run.{MemH, Run, unit-natural}
 use Rattle.history.proofs.Stable.{Real}
-use Rattle.history.proofs.Arrive.{Arriving, real}
+use Rattle.history.proofs.Arrive.{Arriving}
 use Rattle.history.proofs.Ranges.{AllNatural, ranges-from}
 use Rattle.history.proofs.Targets.{first-in, sorted-behind}
 use Rattle.history.proofs.WellUnits.{Unit1, Units1, all-of}

@@ -1,15 +1,12 @@
 -- The invariant of a history (§8): after every arrival the list is good, each unit is what its edit makes at its position in the units of its context alone,
 -- and each delete took what its position gives there.
-use Prim.Native.Nat.{ℕ, zero, suc, _+_, _-_, _<_, _≤_}
-use mathlib.Core.Path.{_≡_, refl, sym, ap, ap₂, subst, _∙_}
+use Prim.Native.Nat.{ℕ, zero, suc, _+_, _<_, _≤_}
+use mathlib.Core.Path.{_≡_, refl, sym, ap, subst, _∙_}
 use mathlib.Core.Logic.{_⊎_, inl, inr}
-use mathlib.Core.Bool.{Bool, true, false, not, _&&_, cond, true≢false}
-use mathlib.Core.List.{List, [], _∷_, _++_, map, List·Memᴰ, List·Memᴰ·head, List·Memᴰ·tail, List·Memᴰ·not-nil, Memᴰ·map, Memᴰ·of-map}
+use mathlib.Core.Bool.{Bool, true, false, not, true≢false}
+use mathlib.Core.List.{List, [], map, List·Memᴰ, Memᴰ·map, Memᴰ·of-map}
 use lib.ListN.{length}
-use lib.Dec.{leb}
-use lib.IntN.{pos, _+ℤ_}
 use native.Mathlib.Omega.{arith}
-use native.Mathlib.Decide.{decLt}
 use borrow.Author.Tests.{leb-true}
 use Rattle.span.specs.declared.chunk.RichtextChunk.{RichtextChunk}
 use Rattle.span.specs.declared.ids.Id.{Id}
@@ -20,27 +17,24 @@ use Rattle.span.specs.Chunk.{lenOf}
 use Rattle.span.specs.Ids.{UNKNOWN-PEER, incId}
 use Rattle.span.specs.Span.{newSpan, shift, leftOf}
 use Rattle.span.specs.Units as Units
-use Rattle.rope.specs.Lists.{keepIf}
 use Rattle.rope.specs.Place.{lastId, front, originLeft, originRight, withOrigins, shown}
 use Rattle.rope.specs.Change.{withState}
 use Rattle.fugue.specs.Tree.{ref, ol, or}
 use Rattle.fugue.proofs.Keys.{Key}
 use Rattle.fugue.proofs.ScanPlace.{Mem}
 use Rattle.fugue.proofs.Insert.{In, Good}
-use Rattle.fugue.proofs.Past.{notFuture, pastOf, originLeft-in}
-use Rattle.fugue.proofs.Sorts.{Splice}
+use Rattle.fugue.proofs.Past.{notFuture, originLeft-in}
 use Rattle.fugue.proofs.Walk.{keepIf-in}
 use Rattle.fugue.proofs.Clocks.{cnt, Fits, Causal, in-range}
 use Rattle.fugue.proofs.Counting.{NoTwice}
 use Rattle.history.specs.Edit.{Version, Act, Insert, Delete, Edit, sizeOf, Held, History}
-use Rattle.history.specs.Version.{number, countOf}
-use Rattle.history.specs.Checkout.{statusAt, unitsAt}
+use Rattle.history.specs.Version.{number}
+use Rattle.history.specs.Checkout.{unitsAt}
 use Rattle.history.specs.Checkout as Co
 use Rattle.history.specs.Arrive.{actTook}
 use Rattle.history.specs.Codes.{inside}
-use Rattle.history.specs.Demand.{realPlain}
 use Rattle.history.proofs.Plain.{plain, view, sees}
-use Rattle.history.proofs.Context.{count, holds, clock, Known, before, holds-known, before-known, before-unknown, known-or, count-unknown, Natural, natural-inc, past-of, in-past}
+use Rattle.history.proofs.Context.{count, holds, clock, Known, before, holds-known, before-known, before-unknown, known-or, Natural, natural-inc, past-of, in-past}
 
 abbrev pub MemE : Edit → List Edit → Type 0
 MemE e l = List·Memᴰ e l

@@ -3,28 +3,28 @@
 use Prim.Native.Nat.{ℕ, zero, suc, _+_, _<_, _≤_}
 use mathlib.Core.Path.{_≡_, refl, sym, ap, subst, _∙_}
 use mathlib.Core.Logic.{_⊎_, inl, inr}
-use mathlib.Core.Bool.{Bool, true, false, not, _&&_, _||_, cond, true≢false, and-eq-true-iff}
+use mathlib.Core.Bool.{Bool, true, not, _&&_, _||_, cond, and-eq-true-iff}
 use mathlib.Core.List.{List, [], _∷_, _++_, List·Memᴰ·head, List·Memᴰ·tail, List·Memᴰ·not-nil, List·Memᴰ·cases-cons, List·Memᴰ·append-cases, Memᴰ·append-left, Memᴰ·append-right, List·Memᴰ·eq-of-singleton}
 use native.Mathlib.Omega.{arith}
 use lib.Dec.{leb, eqb}
-use lib.IntN.{ℤ, pos, negsuc}
-use borrow.Author.Tests.{leb-true, eq-eqb, eqb-false, not-true}
+use lib.IntN.{ℤ, pos}
+use borrow.Author.Tests.{leb-true, eqb-false, not-true}
 use Rattle.span.specs.declared.ids.Id.{Id}
 use Rattle.span.specs.declared.ids.OptId.the-variants.{At}
-use Rattle.span.specs.Chunk.{UNKNOWN, chunk, lenOf}
+use Rattle.span.specs.Chunk.{UNKNOWN, chunk}
 use Rattle.span.specs.Ids.{UNKNOWN-PEER, roomOf, roomOpt}
 use Rattle.span.proofs.IdsLaws.{Room, roomy}
 use Rattle.span.proofs.Views.{len-pos}
 use Rattle.rope.specs.Lists.{every}
 use Rattle.fugue.proofs.Tests.{Test, pass, fail, eqb-test}
-use Rattle.fugue.proofs.Clocks.{cnt, Causal, Fits, Covers, WellFormed, Order, order-of, own-le}
+use Rattle.fugue.proofs.Clocks.{Causal, Covers, WellFormed, Order, order-of, own-le}
 use Rattle.fugue.proofs.Clocks as Clk
-use Rattle.history.specs.Edit.{Count, Version, Act, Insert, Delete, Edit, sizeOf, size, History}
+use Rattle.history.specs.Edit.{Count, Version, Act, Insert, Delete, Edit, sizeOf, size}
 use Rattle.history.specs.Version.{number, countOf, below, within, wholeAct, closedFor}
 use Rattle.history.specs.Tree.{rank, sortRank}
 use Rattle.history.specs.Valid.{actFormed, actIds}
-use Rattle.history.specs.Demand.{InSet, firstOf, Uses, IdOf, Once, WellFormedSet, After}
-use Rattle.history.proofs.Context.{count, holds, clock, Known, holds-known, count-known, count-unknown, Natural, below-lt, lt-below, holder, base, holder-size}
+use Rattle.history.specs.Demand.{InSet, firstOf, IdOf, Once, WellFormedSet, After}
+use Rattle.history.proofs.Context.{count, holds, clock, holds-known, count-known, count-unknown, Natural, below-lt, lt-below, holder, base, holder-size}
 use Rattle.history.proofs.Run.{MemE}
 use Rattle.history.proofs.Converge.{Sound}
 use Rattle.history.proofs.Ranks.{rank-lt, own-order}

@@ -1,18 +1,15 @@
 -- What an edit sees does not change by later arrivals (L8.1): units and deletes that are not in its context add nothing to it. And an edit that arrives
 -- finds at its context the origins, targets and visible length that the units of the context alone give (§6).
-use Prim.Native.Nat.{ℕ, zero, suc, _+_, _<_, _≤_}
+use Prim.Native.Nat.{ℕ, zero, suc, _+_, _≤_}
 use mathlib.Core.Path.{_≡_, refl, sym, ap, ap₂, subst, _∙_}
 use mathlib.Core.Logic.{_⊎_, inl, inr}
 use mathlib.Core.Bool.{Bool, true, false, not, _&&_, cond}
 use mathlib.Core.List.{List, [], _∷_, _++_, map, List·Memᴰ·head, List·Memᴰ·tail, Memᴰ·map, Memᴰ·of-map, nil≢cons, head-eq-of-cons-eq, tail-eq-of-cons-eq}
 use lib.Dec.{leb}
-use lib.IntN.{pos, _+ℤ_}
-use native.Mathlib.Omega.{arith}
-use borrow.Author.Tests.{leb-true}
+use lib.IntN.{pos}
 use Rattle.span.specs.declared.ids.Id.{Id}
 use Rattle.span.specs.declared.ids.OptId.{OptId}
 use Rattle.span.specs.declared.ids.OptId.the-variants.{Nothing, At}
-use Rattle.span.specs.declared.status.Status.{Status}
 use Rattle.span.specs.declared.span.OptStatus.the-variants as Opt
 use Rattle.span.specs.declared.span.FugueSpan.{FugueSpan}
 use Rattle.span.specs.Ids.{UNKNOWN-PEER, incId}
@@ -23,11 +20,11 @@ use Rattle.rope.specs.Change.{withState, orReal, deleteUnit, deleteFirst, delet
 use Rattle.fugue.proofs.ScanPlace.{Mem}
 use Rattle.fugue.proofs.Range.{front-behind}
 use Rattle.fugue.proofs.Past.{notFuture, pastOf, shown-past, originLeft-past, originRight-past, taken-past}
-use Rattle.fugue.proofs.Alike.{Same, Alike}
+use Rattle.fugue.proofs.Alike.{Alike}
 use Rattle.fugue.proofs.Sorts.{Splice}
-use Rattle.history.specs.Edit.{Version, Act, Insert, Delete, Edit, Range, Held, History}
+use Rattle.history.specs.Edit.{Version, Act, Insert, Delete, Edit, Held, History}
 use Rattle.history.specs.Version.{number, countOf, below}
-use Rattle.history.specs.Checkout.{inRanges, rangesOf, deletesIn, statusAt, unitsAt}
+use Rattle.history.specs.Checkout.{inRanges, rangesOf, deletesIn, unitsAt}
 use Rattle.history.specs.Checkout as Co
 use Rattle.history.specs.Arrive.{actTook}
 use Rattle.history.specs.Codes.{inside}

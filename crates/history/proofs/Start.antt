@@ -1,11 +1,10 @@
 -- The start, empty or a placeholder, is a history: the placeholder's units are those of an edit that came before all.
 use Prim.Native.Nat.{ℕ, zero, suc, _+_, _<_, _≤_}
-use mathlib.Core.Path.{_≡_, refl, sym, ap, ap₂, subst, _∙_}
-use mathlib.Core.Logic.{_⊎_, inl, inr}
-use mathlib.Core.Bool.{Bool, true, false, cond}
-use mathlib.Core.List.{List, [], _∷_, _++_, append-nil, List·Memᴰ·head, List·Memᴰ·not-nil, List·Memᴰ·cases-cons, List·Memᴰ·eq-of-singleton}
+use mathlib.Core.Path.{_≡_, refl, sym, ap, subst, _∙_}
+use mathlib.Core.Logic.{inl}
+use mathlib.Core.Bool.{Bool, true, cond}
+use mathlib.Core.List.{List, [], _∷_, append-nil, List·Memᴰ·head, List·Memᴰ·not-nil, List·Memᴰ·eq-of-singleton}
 use lib.ListN.{length}
-use lib.Dec.{eqb}
 use lib.IntN.{pos}
 use native.Mathlib.Omega.{arith}
 use borrow.Author.Tests.{le-leb, lt-ltb, ne-eqb}
@@ -22,9 +21,9 @@ use Rattle.span.specs.Units as Units
 use Rattle.span.proofs.UnitLaws.{span-of}
 use Rattle.span.proofs.ForRope.{units-length, span-units}
 use Rattle.rope.specs.Limits.{UNITS}
-use Rattle.rope.specs.Place.{parentRight, hasOl, front, behind, lastId, firstPast, originLeft, originRight, withOrigins, putAt, scanPlace, run, upTo, insertUnits, shown}
+use Rattle.rope.specs.Place.{parentRight, front, behind, lastId, firstPast, originLeft, originRight, withOrigins, putAt, scanPlace, run, upTo, insertUnits, shown}
 use Rattle.rope.specs.Query.{placeholder}
-use Rattle.fugue.specs.Tree.{ref, ol, or}
+use Rattle.fugue.specs.Tree.{ref}
 use Rattle.fugue.proofs.Order.{Older}
 use Rattle.fugue.proofs.Keys.{Key}
 use Rattle.fugue.proofs.ScanPlace.{Mem}
@@ -33,13 +32,12 @@ use Rattle.fugue.proofs.InsertGood.{insert-good}
 use Rattle.fugue.proofs.NewKeys.{spanKey, spanKey-length, firstKey, firstKey-length, keyOf, keyOf-new, good-new, hung-new, hungs-new}
 use Rattle.fugue.proofs.Splices.{unit-from, unit-in}
 use Rattle.fugue.proofs.Clocks.{cnt, Fits, Causal}
-use Rattle.history.specs.Edit.{Act, Insert, Edit, sizeOf, Held, History}
-use Rattle.history.specs.Version.{number}
+use Rattle.history.specs.Edit.{Insert, Edit, sizeOf, Held}
 use Rattle.history.specs.Arrive.{start}
 use Rattle.history.specs.Codes.{inside}
 use Rattle.history.proofs.Plain.{plain}
 use Rattle.history.proofs.Context.{holds, clock, Known, before, before-unknown, Natural, holder, base, holder-size}
-use Rattle.history.proofs.Run.{MemE, MemH, Made, Src, Run, spanOf}
+use Rattle.history.proofs.Run.{MemE, MemH, Made, Run, spanOf}
 use Rattle.history.proofs.WellUnits.{Units1, of-all}
 
 abbrev noKeys : OptId → Key

@@ -1,53 +1,47 @@
 -- From units to what is stored: an arriving edit of the set is accepted (0, whatever the number), and the stored history goes on being the units' one.
-use Prim.Native.Nat.{ℕ, zero, suc, _+_, _<_, _≤_}
+use Prim.Native.Nat.{ℕ, zero, suc, _+_, _≤_}
 use mathlib.Core.Path.{_≡_, refl, sym, ap, ap₂, subst, _∙_}
 use mathlib.Core.Logic.{_⊎_, inl, inr}
-use mathlib.Core.Bool.{Bool, true, false, not, _&&_, _||_, cond, and-eq-true-iff}
-use mathlib.Core.List.{List, [], _∷_, _++_, map, append-assoc, append-nil, List·Memᴰ·head, List·Memᴰ·tail, List·Memᴰ·not-nil, List·Memᴰ·cases-cons, Memᴰ·append-left, Memᴰ·append-right, Memᴰ·map, Memᴰ·cast}
+use mathlib.Core.Bool.{Bool, true, false, _&&_, cond, and-eq-true-iff}
+use mathlib.Core.List.{List, [], _∷_, _++_, append-assoc, append-nil, List·Memᴰ·head, List·Memᴰ·cases-cons, Memᴰ·append-left, Memᴰ·append-right, Memᴰ·map, Memᴰ·cast}
 use native.Mathlib.Omega.{arith}
 use lib.Dec.{eqb, leb, ltb}
-use lib.IntN.{pos}
 use lib.ListN.{length, length-append, length-map}
-use borrow.Author.Tests.{eq-eqb, ne-eqb, le-leb, lt-ltb, leb-true}
-use Rattle.span.specs.declared.chunk.RichtextChunk.{RichtextChunk}
+use borrow.Author.Tests.{ne-eqb, le-leb, lt-ltb, leb-true}
 use Rattle.span.specs.declared.ids.Id.{Id}
 use Rattle.span.specs.declared.ids.OptId.{OptId}
 use Rattle.span.specs.declared.ids.OptId.the-variants.{At}
 use Rattle.span.specs.declared.span.FugueSpan.{FugueSpan}
-use Rattle.span.specs.Chunk.{UNKNOWN, chunk, formed, lenOf, shapeOf}
-use Rattle.span.specs.Ids.{UNKNOWN-PEER, room, roomOpt, incId}
+use Rattle.span.specs.Chunk.{formed, lenOf}
+use Rattle.span.specs.Ids.{UNKNOWN-PEER, roomOpt, incId}
 use Rattle.span.specs.Status.{activated}
-use Rattle.span.specs.Span.{newSpan, realNew}
+use Rattle.span.specs.Span.{newSpan}
 use Rattle.span.specs.Units.{unitsOf, join}
 use Rattle.span.proofs.ForRope.{units-length}
-use Rattle.span.proofs.UnitLaws.{span-of}
 use Rattle.rope.specs.Limits.{UNITS, PEERS, EDITS, fits}
-use Rattle.rope.specs.Place.{front, behind, originLeft, originRight, withOrigins, insertUnits}
+use Rattle.rope.specs.Place.{front, behind, originLeft, originRight, withOrigins}
 use Rattle.rope.specs.Change.{deleteUnit, deleteFirst, deleteUnits}
-use Rattle.rope.specs.Query.{placeholder}
-use Rattle.rope.specs.Codes.{unless, kept}
 use Rattle.fugue.proofs.Keys.{Key}
-use Rattle.fugue.proofs.ScanPlace.{Mem}
 use Rattle.fugue.proofs.Tests.{Test, pass, fail, eqb-test}
 use Rattle.fugue.proofs.Range.{front-behind}
 use Rattle.fugue.proofs.Splices.{insert-splice, splice-length}
-use Rattle.fugue.proofs.Clocks.{cnt, Fits, doneOf}
-use Rattle.history.specs.Edit.{Version, Act, Insert, Delete, Edit, sizeOf, size, Range, Held, History}
-use Rattle.history.specs.Version.{heldCount, countOf}
+use Rattle.fugue.proofs.Clocks.{cnt, doneOf}
+use Rattle.history.specs.Edit.{Version, Act, Insert, Delete, Edit, sizeOf, size, Held, History}
+use Rattle.history.specs.Version.{heldCount}
 use Rattle.history.specs.Checkout.{unitsAt}
 use Rattle.history.specs.Checkout as Co
-use Rattle.history.specs.Arrive.{start, actList, actTook, listAfter, tookBy, hold, arrive, replay}
+use Rattle.history.specs.Arrive.{start, actList, listAfter, tookBy, hold, arrive, replay}
 use Rattle.history.specs.Valid.{actFormed, actIds, editCode, editsFit, actLength, targetList, valid}
-use Rattle.history.specs.Codes.{onUnits, stored, orElse, inside, made, arrivalFits, arriveCode, arriveOf}
+use Rattle.history.specs.Codes.{onUnits, stored, inside, made, arrivalFits, arriveCode, arriveOf}
 use Rattle.history.specs.Demand.{InSet, firstOf, WellFormedSet, Limits, ArrivalOrder, Accepted, arriveAll, peers, sum}
-use Rattle.history.proofs.Context.{clock, Known, holder, base, holder-size}
+use Rattle.history.proofs.Context.{clock, Known, holder, base}
 use Rattle.history.proofs.Run.{MemE, MemH, Run}
 use Rattle.history.proofs.Start.{start-list, start-units}
 use Rattle.history.proofs.Arrive.{Arriving, run-arrive}
 use Rattle.history.proofs.Converge.{Arrives}
-use Rattle.history.proofs.Sets.{sound, not-own}
+use Rattle.history.proofs.Sets.{not-own}
 use Rattle.history.proofs.Totals.{sum-app, sum-same, sum-length, peers-le}
-use Rattle.history.proofs.WellUnits.{Units1, units-at, units-insert, units-delete, span-new, of-all, join-length}
+use Rattle.history.proofs.WellUnits.{Units1, units-at, units-insert, units-delete, span-new, join-length}
 use Rattle.history.proofs.Targets.{took-few}
 use Rattle.history.proofs.Valid.{arrived, Store, targets-few, held-length, read-back, is-valid}
 use Rattle.history.proofs.Codes.{edit-code}

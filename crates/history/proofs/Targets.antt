@@ -3,9 +3,9 @@ use Prim.Native.Nat.{ℕ, zero, suc, _+_, _<_, _≤_}
 use mathlib.Core.Path.{_≡_, refl, sym, ap, ap₂, subst, _∙_}
 use mathlib.Core.Logic.{_⊎_, inl, inr}
 use mathlib.Core.Bool.{Bool, true, false, _&&_, cond}
-use mathlib.Core.List.{List, [], _∷_, _++_, map, List·Memᴰ, List·Memᴰ·head, List·Memᴰ·tail, List·Memᴰ·not-nil, List·Memᴰ·cases-cons, Memᴰ·map, Memᴰ·of-map, Memᴰ·cast}
+use mathlib.Core.List.{List, [], _∷_, map, List·Memᴰ·head, List·Memᴰ·tail, List·Memᴰ·not-nil, List·Memᴰ·cases-cons, Memᴰ·map, Memᴰ·of-map, Memᴰ·cast}
 use native.Mathlib.Omega.{arith}
-use lib.Dec.{eqb, leb}
+use lib.Dec.{eqb}
 use lib.ListN.{length, length-map}
 use borrow.Author.Tests.{eq-eqb, leb-true}
 use Rattle.span.specs.declared.ids.Id.{Id}
@@ -16,11 +16,10 @@ use Rattle.span.specs.Status.{activated}
 use Rattle.rope.specs.Lists.{some, keepIf}
 use Rattle.rope.specs.Place.{behind, shown}
 use Rattle.rope.specs.Change.{firstShown, taken}
-use Rattle.fugue.specs.Tree.{ref}
-use Rattle.fugue.proofs.Keys.{Key, Lt}
+use Rattle.fugue.proofs.Keys.{Key}
 use Rattle.fugue.proofs.ScanPlace.{Mem, Sorted}
-use Rattle.fugue.proofs.Past.{notFuture, behind-zero}
-use Rattle.fugue.proofs.Alike.{Same, alike-map, sorted-alike}
+use Rattle.fugue.proofs.Past.{notFuture}
+use Rattle.fugue.proofs.Alike.{alike-map, sorted-alike}
 use Rattle.fugue.proofs.Walk.{keepIf-in, keepIf-keeps, sorted-unique, sorted-uniq}
 use Rattle.history.specs.Edit.{Version, Act, Insert, Delete, Edit, Range, Held, History}
 use Rattle.history.specs.Checkout.{inRanges, rangesOf}
@@ -28,7 +27,7 @@ use Rattle.history.specs.Arrive.{actTook}
 use Rattle.history.specs.Valid.{sameRanges, total, rangesIn, actLength, targetsFit}
 use Rattle.history.specs.Codes.{inside}
 use Rattle.history.proofs.Plain.{view, view-same, sees}
-use Rattle.history.proofs.Context.{count, clock, Known, before, before-known, Natural}
+use Rattle.history.proofs.Context.{count, Known, before, before-known, Natural}
 use Rattle.history.proofs.Run.{MemE, MemH, num, Run, unit-natural, seen-from}
 use Rattle.history.proofs.Compare.{sorted-sees, sorted-keep, behind-sub}
 use Rattle.history.proofs.Ranges.{AllNatural, ranges-from, ranges-to, ranges-total, ranges-length, sameRanges-refl}

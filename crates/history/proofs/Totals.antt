@@ -1,14 +1,14 @@
 -- What edits add up to does not depend on their order: sums, lengths and the number of offices over two lists without doubles that have the same members.
-use Prim.Native.Nat.{ℕ, zero, suc, _+_, _<_, _≤_}
-use mathlib.Core.Path.{_≡_, refl, sym, ap, ap₂, subst, _∙_}
+use Prim.Native.Nat.{ℕ, suc, _+_, _≤_}
+use mathlib.Core.Path.{_≡_, refl, sym, ap, subst, _∙_}
 use mathlib.Core.Logic.{_⊎_, inl, inr}
 use mathlib.Core.Bool.{Bool, true, false, not, _||_, cond, true≢false}
-use mathlib.Core.List.{List, [], _∷_, _++_, List·Memᴰ·head, List·Memᴰ·tail, List·Memᴰ·not-nil, List·Memᴰ·cases-cons, List·Memᴰ·append-cases, Memᴰ·append-left, Memᴰ·append-right}
+use mathlib.Core.List.{List, [], _∷_, _++_, List·Memᴰ·head, List·Memᴰ·tail, List·Memᴰ·not-nil, List·Memᴰ·cases-cons}
 use native.Mathlib.Omega.{arith}
 use lib.Dec.{eqb}
 use lib.ListN.{length}
-use borrow.Author.Tests.{eqb-true, eq-eqb}
-use Rattle.rope.specs.Lists.{every, some, keepIf}
+use borrow.Author.Tests.{eq-eqb}
+use Rattle.rope.specs.Lists.{some, keepIf}
 use Rattle.fugue.proofs.Tests.{Test, pass, fail, eqb-test}
 use Rattle.history.specs.Edit.{Edit}
 use Rattle.history.specs.Demand.{InSet, Once, peers, sum}

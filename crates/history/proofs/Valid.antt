@@ -1,24 +1,23 @@
 -- A history made by calls is well formed as stored: 15 is never given.
-use Prim.Native.Nat.{ℕ, zero, suc, _+_, _<_, _≤_}
+use Prim.Native.Nat.{ℕ, suc, _+_, _≤_}
 use mathlib.Core.Path.{_≡_, refl, sym, ap, ap₂, subst, _∙_}
 use mathlib.Core.Logic.{_⊎_, inl, inr}
-use mathlib.Core.Bool.{Bool, true, false, not, _&&_, _||_, cond, true≢false}
-use mathlib.Core.List.{List, [], _∷_, _++_, map, List·Memᴰ, List·Memᴰ·head, List·Memᴰ·tail, List·Memᴰ·not-nil, List·Memᴰ·cases-cons, List·Memᴰ·append-cases, Memᴰ·append-left, Memᴰ·append-right, Memᴰ·of-map, Memᴰ·cast}
+use mathlib.Core.Bool.{Bool, true, false, _&&_, _||_, cond}
+use mathlib.Core.List.{List, [], _∷_, _++_, map, List·Memᴰ, List·Memᴰ·head, List·Memᴰ·tail, List·Memᴰ·not-nil, List·Memᴰ·cases-cons, Memᴰ·append-left, Memᴰ·append-right, Memᴰ·of-map}
 use native.Mathlib.Omega.{arith}
-use lib.Dec.{eqb, leb}
-use lib.IntN.{pos}
+use lib.Dec.{eqb}
 use lib.ListN.{length, length-append, length-map}
 use borrow.Author.Tests.{eq-eqb, le-leb, ne-eqb}
 use Rattle.span.specs.declared.chunk.RichtextChunk.{RichtextChunk}
 use Rattle.span.specs.declared.ids.Id.{Id}
 use Rattle.span.specs.declared.ids.OptId.{OptId}
-use Rattle.span.specs.declared.ids.OptId.the-variants.{Nothing, At}
+use Rattle.span.specs.declared.ids.OptId.the-variants.{Nothing}
 use Rattle.span.specs.declared.span.FugueSpan.{FugueSpan}
-use Rattle.span.specs.Chunk.{UNKNOWN, chunk, lenOf, partChunk}
-use Rattle.span.specs.Ids.{UNKNOWN-PEER, incId, incOpt, sameId, sameOpt}
+use Rattle.span.specs.Chunk.{UNKNOWN, chunk, partChunk}
+use Rattle.span.specs.Ids.{UNKNOWN-PEER, incId, sameId, sameOpt}
 use Rattle.span.specs.Span.{newSpan, shift}
 use Rattle.span.proofs.Same.{sameId-refl, sameOpt-refl}
-use Rattle.span.specs.Units.{unitsOf, expand, join}
+use Rattle.span.specs.Units.{unitsOf, join}
 use Rattle.span.specs.Units as Units
 use Rattle.span.proofs.ForRope.{units-length}
 use Rattle.span.proofs.Unique.{expand-join}
@@ -27,22 +26,20 @@ use Rattle.rope.specs.Lists.{every, some}
 use Rattle.rope.specs.Place.{withOrigins}
 use Rattle.rope.specs.Change.{withState}
 use Rattle.rope.specs.Query.{placeholder}
-use Rattle.rope.specs.Store.{wellFormed}
-use Rattle.fugue.specs.Tree.{ref}
 use Rattle.fugue.proofs.Keys.{Key}
 use Rattle.fugue.proofs.ScanPlace.{Mem}
 use Rattle.fugue.proofs.Tests.{Test, pass, fail, eqb-test}
 use Rattle.fugue.proofs.Splices.{unit-in}
 use Rattle.fugue.proofs.Clocks.{cnt}
-use Rattle.history.specs.Edit.{Version, Act, Insert, Delete, Edit, sizeOf, size, Range, Held, History}
+use Rattle.history.specs.Edit.{Act, Insert, Delete, Edit, Range, Held, History}
 use Rattle.history.specs.Version.{heldCount}
 use Rattle.history.specs.Arrive.{start}
-use Rattle.history.specs.Valid.{editCode, editsFit, actUnits, editUnits, madeUnits, sameUnit, sameUnits, actLength, targetsFit, targetList, valid}
+use Rattle.history.specs.Valid.{editsFit, actUnits, editUnits, madeUnits, sameUnit, sameUnits, actLength, targetsFit, targetList, valid}
 use Rattle.history.specs.Codes.{onUnits, stored, made}
 use Rattle.history.specs.Demand.{InSet, sum, realPlain}
 use Rattle.history.proofs.Plain.{plain}
-use Rattle.history.proofs.Context.{clock, before, holder, base, holder-size}
-use Rattle.history.proofs.Run.{MemE, MemH, spanOf, Made, made-peer, Src, Run}
+use Rattle.history.proofs.Context.{clock, before, holder, base}
+use Rattle.history.proofs.Run.{MemE, MemH, spanOf, Src, Run}
 use Rattle.history.proofs.Start.{start-list}
 use Rattle.history.proofs.Sets.{base-is}
 use Rattle.history.proofs.WellUnits.{Units1, all-of, well-joined}

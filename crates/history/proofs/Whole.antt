@@ -1,14 +1,14 @@
 -- The version of the whole set has rising peers, counts of at least 1, and for each office what its edits add up to.
-use Prim.Native.Nat.{ℕ, zero, suc, _+_, _<_, _≤_}
+use Prim.Native.Nat.{ℕ, _+_, _<_, _≤_}
 use mathlib.Core.Path.{_≡_, refl, sym, ap, ap₂, subst, _∙_}
 use mathlib.Core.Bool.{Bool, true, false, _&&_, cond, and-eq-true-iff}
-use mathlib.Core.List.{List, [], _∷_, List·Memᴰ, List·Memᴰ·head, List·Memᴰ·tail, List·Memᴰ·not-nil, List·Memᴰ·cases-cons}
+use mathlib.Core.List.{List, [], _∷_, List·Memᴰ, List·Memᴰ·head, List·Memᴰ·tail, List·Memᴰ·cases-cons}
 use mathlib.Core.Logic.{_⊎_, inl, inr}
 use native.Mathlib.Omega.{arith}
-use lib.Dec.{eqb, ltb, leb}
-use lib.IntN.{ℤ, pos}
+use lib.Dec.{eqb, ltb}
+use lib.IntN.{pos}
 use lib.Signed.{leZ}
-use borrow.Author.Tests.{lt-ltb, ltb-true, le-leb}
+use borrow.Author.Tests.{lt-ltb, le-leb}
 use Rattle.rope.specs.Lists.{every}
 use Rattle.fugue.proofs.Tests.{Test, pass, fail, eqb-test, ltb-test}
 use Rattle.history.specs.Edit.{Count, Version, Edit, size}

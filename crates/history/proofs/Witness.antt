@@ -1,6 +1,6 @@
 -- The premises can be met: a placeholder of two units; peer 1 inserts one unit at 1; then, not knowing of each other, peer 2 deletes two units at 0 and peer 3 inserts one
 -- at 1. Both orders of the last two are accepted and end alike.
-use Prim.Native.Nat.{ℕ, zero, suc, _+_, _<_, _≤_}
+use Prim.Native.Nat.{ℕ, _<_, _≤_}
 use mathlib.Core.Path.{_≡_, refl, sym, ap, subst, _∙_}
 use mathlib.Core.Logic.{_⊎_, inl, inr}
 use mathlib.Core.Bool.{Bool, true, false, _&&_, cond, true≢false}
@@ -12,7 +12,7 @@ use Rattle.span.specs.declared.ids.OptId.the-variants.{At}
 use Rattle.span.specs.Chunk.{chunk}
 use Rattle.span.specs.Ids.{id, roomOpt}
 use Rattle.fugue.proofs.Tests.{Test, pass, fail, eqb-test}
-use Rattle.history.specs.Edit.{Count, Version, Insert, Delete, Edit, size}
+use Rattle.history.specs.Edit.{Count, Insert, Delete, Edit, size}
 use Rattle.history.specs.Version.{countOf, below, rising, closedFor}
 use Rattle.history.specs.Arrive.{start}
 use Rattle.history.specs.Tree.{sortRank}

@@ -1,7 +1,7 @@
 -- Demand 3 in its own words: a set of edits, an arrival order of it, and what is promised of every such order. The theorem is proofs/Demand. Assumes nothing.
 use Prim.Native.Nat.{ℕ, suc, _+_, _<_, _≤_}
 use mathlib.Core.Path.{_≡_}
-use mathlib.Core.Bool.{Bool, true, false, _&&_, cond}
+use mathlib.Core.Bool.{Bool, true, _&&_, cond}
 use mathlib.Core.List.{List, [], _∷_, map, List·Memᴰ}
 use lib.Dec.{ltb, eqb}
 use lib.IntN.{pos}
@@ -16,11 +16,11 @@ use Rattle.rope.specs.Limits.{UNITS, PEERS, EDITS}
 use Rattle.rope.specs.Lists.{every, some}
 use Rattle.rope.specs.Change.{withState}
 use Rattle.fugue.specs.Tree.{walk, sortId}
-use Rattle.history.specs.Edit.{Count, Version, Act, Edit, size, History}
+use Rattle.history.specs.Edit.{Count, Version, Edit, size, History}
 use Rattle.history.specs.Version.{number, countOf, below, rising, closedFor}
 use Rattle.history.specs.Checkout.{unitsAt}
 use Rattle.history.specs.Arrive.{start}
-use Rattle.history.specs.Tree.{treeArrive, sortRank, treeOf}
+use Rattle.history.specs.Tree.{treeArrive, treeOf}
 use Rattle.history.specs.Valid.{actFormed, actIds, actLength}
 use Rattle.history.specs.Codes.{stored, inside, made, arriveCode, arriveOf, checkoutCode, checkoutOf}
 
