@@ -76,8 +76,8 @@ Natural i = i .counter ≡ pos (number (i .counter))
 pub natural-inc : (i : Id) (k : ℕ) → Natural i → (Natural (incId i k)) × (number (incId i k .counter) ≡ number (i .counter) + k)
 unfolding incId
 natural-inc i k h =
-  let e : i .counter +ℤ pos k ≡ pos (number (i .counter) + k) = ap (λ (z : ℤ). z +ℤ pos k) h in
-  (e ∙ ap (λ (z : ℤ). pos (number z)) (sym e), ap number e)
+    let e : i .counter +ℤ pos k ≡ pos (number (i .counter) + k) = ap (λ (z : ℤ). z +ℤ pos k) h in
+    (e ∙ ap (λ (z : ℤ). pos (number z)) (sym e), ap number e)
 
 in-known : (v : Version) (i : Id) → Natural i → ¬ (i .peer ≡ UNKNOWN-PEER) → inVersion v i ≡ ltb (number (i .counter)) (countOf v (i .peer))
 unfolding inVersion below
@@ -107,8 +107,8 @@ module _ (n : ℕ) (v : Version) (held : List Held) (i : Id) (nat : Natural i) w
       go : Test (eqb (i .peer) UNKNOWN-PEER) (i .peer ≡ UNKNOWN-PEER) → not (inVersion v i) ≡ false
       go (pass b d) = ap not (in-unknown v i d)
       go (fail b d) =
-        let k : number (i .counter) < countOf v (i .peer) = subst (λ (z : ℕ). number (i .counter) < z) (count-known n v (i .peer) d) h in
-        ap not (in-known v i nat d ∙ lt-ltb (number (i .counter)) (countOf v (i .peer)) k)
+          let k : number (i .counter) < countOf v (i .peer) = subst (λ (z : ℕ). number (i .counter) < z) (count-known n v (i .peer) d) h in
+          ap not (in-known v i nat d ∙ lt-ltb (number (i .counter)) (countOf v (i .peer)) k)
 
   pub future-of : ¬ (i .peer ≡ UNKNOWN-PEER) → countOf v (i .peer) ≤ number (i .counter) → statusAt v held i .future ≡ true
   unfolding statusAt

@@ -41,8 +41,7 @@ four : (v k c f : Bool) → v ≡ true → k ≡ true → c ≡ true → f ≡ t
 four v k c f hv hk hc hf = rw (hv, hk, hc, hf)
 
 module _ (n spans targets : ℕ) (S : List Edit) (wf : WellFormedSet S) (lim : Limits n spans targets S) (inside : Inside (start n) (sortRank S S))
-  (fs : List Edit) (ord : ArrivalOrder S fs) where
-
+    (fs : List Edit) (ord : ArrivalOrder S fs) where
   abbrev v : Version
   v = wholeOf S
 
@@ -67,7 +66,7 @@ module _ (n spans targets : ℕ) (S : List Edit) (wf : WellFormedSet S) (lim : L
   -- the version has what the history holds
   held : (p : ℕ) → countOf v p ≡ heldCount (replay (start n) fs .held) p
   held p = whole .counts p ∙ (sym (totals n spans targets S wf lim fs ord (λ (e : Edit). cond (eqb (e .id .peer) p) (size e) 0))
-    ∙ (ap (sum (λ (e : Edit). cond (eqb (e .id .peer) p) (size e) 0)) (sym (st .order)) ∙ sym (held-sum (replay (start n) fs .held) p)))
+      ∙ (ap (sum (λ (e : Edit). cond (eqb (e .id .peer) p) (size e) 0)) (sym (st .order)) ∙ sym (held-sum (replay (start n) fs .held) p)))
 
   counts : (p : ℕ) → count n v p ≡ cnt (clock n) (doneOf (clock n) (base n) fs) p
   counts p = go (eqb-test p UNKNOWN-PEER)
@@ -85,10 +84,17 @@ module _ (n spans targets : ℕ) (S : List Edit) (wf : WellFormedSet S) (lim : L
 
   ctx-le : (x : Held) → MemH x (replay (start n) fs .held) → (k : Count) → List·Memᴰ k (x .edit .context) → number (k .many) ≤ countOf v (k .peer)
   ctx-le x m k j =
-    let me : InSet (x .edit) S = of-set x m in
-    let kn : ¬ (k .peer ≡ UNKNOWN-PEER) = pair-known n S wf (x .edit) me k j in
-    omega (arith, pair-some (x .edit .context) (wf .pairs (x .edit) me) k j .1, count-known n (x .edit .context) (k .peer) kn, holds-known n (x .edit) (k .peer) (sound n S wf (x .edit) me .0),
-      final .1 .holding (x .edit) (final .1 .tooks x m .0) (k .peer), st .counts (k .peer) kn, held (k .peer))
+      let me : InSet (x .edit) S = of-set x m in
+      let kn : ¬ (k .peer ≡ UNKNOWN-PEER) = pair-known n S wf (x .edit) me k j in
+      omega (
+        arith,
+        pair-some (x .edit .context) (wf .pairs (x .edit) me) k j .1,
+        count-known n (x .edit .context) (k .peer) kn,
+        holds-known n (x .edit) (k .peer) (sound n S wf (x .edit) me .0),
+        final .1 .holding (x .edit) (final .1 .tooks x m .0) (k .peer),
+        st .counts (k .peer) kn,
+        held (k .peer),
+      )
 
   whole-le : (x : Held) → MemH x (replay (start n) fs .held) → firstOf (x .edit) + size (x .edit) ≤ countOf v (x .edit .id .peer)
   whole-le x m = omega (arith, in-range (clock n) (doneOf (clock n) (base n) fs) (final .1 .causal) (x .edit) (final .1 .tooks x m .0) .0, st .counts (x .edit .id .peer) (sound n S wf (x .edit) (of-set x m) .0), held (x .edit .id .peer))
@@ -106,12 +112,12 @@ module _ (n spans targets : ℕ) (S : List Edit) (wf : WellFormedSet S) (lim : L
   fits-v : fits spans (join (unitsAt v (onUnits (stored (replay (start n) fs))))) ≡ true
   unfolding fits
   fits-v = ap (λ (z : History). leb (length (join (unitsAt v z))) spans) back ∙ le-leb (length (join (unitsAt v (replay (start n) fs)))) spans
-    (omega (arith, join-length (unitsAt v (replay (start n) fs)), at-length, st .many, totals n spans targets S wf lim fs ord (λ (e : Edit). made (e .act)), lim .spanRoom))
+      (omega (arith, join-length (unitsAt v (replay (start n) fs)), at-length, st .many, totals n spans targets S wf lim fs ord (λ (e : Edit). made (e .act)), lim .spanRoom))
 
   code : checkoutCode spans targets (stored (replay (start n) fs)) v ≡ 0
   unfolding checkoutCode stored
   code = four (valid spans targets (stored (replay (start n) fs))) (named (replay (start n) fs .held) v) (closed (replay (start n) fs .held) v) (fits spans (join (unitsAt v (onUnits (stored (replay (start n) fs))))))
-    (no-15 n spans targets S wf lim fs ord fs (doneOf (clock n) (base n) fs) (replay (start n) fs) (final .0) (final .1) st [] (mathlib.Core.List.append-nil fs)) named-v closed-v fits-v
+      (no-15 n spans targets S wf lim fs ord fs (doneOf (clock n) (base n) fs) (replay (start n) fs) (final .0) (final .1) st [] (mathlib.Core.List.append-nil fs)) named-v closed-v fits-v
 
   list : expand (checkoutOf spans targets (stored (replay (start n) fs)) v .1 .list) ≡ unitsAt v (replay (start n) fs)
   unfolding checkoutOf
@@ -122,7 +128,9 @@ module _ (n spans targets : ℕ) (S : List Edit) (wf : WellFormedSet S) (lim : L
       units = unfold stored checkout in expand-join (unitsAt v (replay (start n) fs)) (all-of (unitsAt v (replay (start n) fs)) (units-at v (replay (start n) fs) (st .units)))
 
   pub demand3 : Promise n spans targets S fs
-  demand3 = record { accepted = done .accepted;
+  demand3 = record {
+    accepted = done .accepted;
     checked = ap (λ (z : History). checkoutCode spans targets z v) (done .left) ∙ code;
     same = ap (λ (z : History). map noReal (expand (checkoutOf spans targets z v .1 .list))) (done .left) ∙ (ap (map noReal) list ∙ units-same n S wf inside fs ord v counts);
-    walked = tree-walk n S wf inside fs ord v }
+    walked = tree-walk n S wf inside fs ord v;
+  }

@@ -67,42 +67,69 @@ module _ (n : ℕ) (done : List Edit) (h : History) (key : OptId → Key) (r : R
     where
       after : History
       after = record { placeholder = h .placeholder; list = unitsAt v h; held = h .held }
+
       go : Known f ⊎ (f .id .peer ≡ Rattle.span.specs.Ids.UNKNOWN-PEER) → before f h ≡ before f (record { placeholder = h .placeholder; list = unitsAt v h; held = h .held })
       go (inr d) = before-unknown f h d ∙ sym (before-unknown f after d)
       go (inl k) = before-known f h k ∙ (ap pastOf (view-list (f .context) (h .held) (h .list) (unitsAt v h) same-plain) ∙ sym (before-known f after k))
 
   pub run-checkout : Run n done (checkout v h) key
   unfolding checkout
-  run-checkout = record { causal = r .causal; natural = r .natural; base = r .base; holding = r .holding;
-      fit = λ (e : Edit) (m : MemE e done). subst (λ (z : List FugueSpan). inside (e .act) (e .at) z ≡ true) (same e) (r .fit e m);
-      good = good-alike key (h .list) (unitsAt v h) (plain-alike (h .list) (unitsAt v h) same-plain) (r .good);
-      deep = λ (w : FugueSpan) (m : Mem w (unitsAt v h)). deep w (plain-mem (h .list) (unitsAt v h) same-plain w m);
-      src = λ (w : FugueSpan) (m : Mem w (unitsAt v h)). src w (plain-mem (h .list) (unitsAt v h) same-plain w m);
-      has = λ (e : Edit) (lam : ℕ) (c : RichtextChunk) (m : MemE e done) (a : e .act ≡ Insert lam c) (k : ℕ) (b : k < lenOf c). has e k (r .has e lam c m a k b);
-      noTwice = r .noTwice;
-      tooks = λ (x : Held) (m : MemH x (h .held)). (r .tooks x m .0, r .tooks x m .1, r .tooks x m .2 ∙ ap (actTook (x .edit .act) (x .edit)) (same (x .edit)));
-      hasT = r .hasT }
+  run-checkout = record {
+    causal = r .causal;
+    natural = r .natural;
+    base = r .base;
+    holding = r .holding;
+    fit = λ (e : Edit) (m : MemE e done). subst (λ (z : List FugueSpan). inside (e .act) (e .at) z ≡ true) (same e) (r .fit e m);
+    good = good-alike key (h .list) (unitsAt v h) (plain-alike (h .list) (unitsAt v h) same-plain) (r .good);
+    deep = λ (w : FugueSpan) (m : Mem w (unitsAt v h)). deep w (plain-mem (h .list) (unitsAt v h) same-plain w m);
+    src = λ (w : FugueSpan) (m : Mem w (unitsAt v h)). src w (plain-mem (h .list) (unitsAt v h) same-plain w m);
+    has = λ (e : Edit) (lam : ℕ) (c : RichtextChunk) (m : MemE e done) (a : e .act ≡ Insert lam c) (k : ℕ) (b : k < lenOf c). has e k (r .has e lam c m a k b);
+    noTwice = r .noTwice;
+    tooks = λ (x : Held) (m : MemH x (h .held)). (r .tooks x m .0, r .tooks x m .1, r .tooks x m .2 ∙ ap (actTook (x .edit .act) (x .edit)) (same (x .edit)));
+    hasT = r .hasT;
+  }
     where
       after : History
       after = record { placeholder = h .placeholder; list = unitsAt v h; held = h .held }
+
       same : (f : Edit) → before f h ≡ before f (record { placeholder = h .placeholder; list = unitsAt v h; held = h .held })
       same f = unfold checkout in same-before f
+
       deep : (w : FugueSpan) → (u : FugueSpan) × Mem u (h .list) × (plain u ≡ plain w) → length (key (ref w)) ≤ length (unitsAt v h)
       deep w t = subst (λ (z : Id). length (key (At z)) ≤ length (unitsAt v h)) (plain-same (t .0) w (t .2) .id) (omega (arith, r .deep (t .0) (t .1), alike-length (h .list) (unitsAt v h) (plain-alike (h .list) (unitsAt v h) same-plain)))
+
       src : (w : FugueSpan) → (u : FugueSpan) × Mem u (h .list) × (plain u ≡ plain w) → Src done (record { placeholder = h .placeholder; list = unitsAt v h; held = h .held }) w
       src w t =
-        let s : Src done h (t .0) = r .src (t .0) (t .1) in
-        record { e = s .e; isIn = s .isIn; made = record { lam = s .made .lam; c = s .made .c; act = s .made .act; k = s .made .k; small = s .made .small;
-          is = sym (t .2) ∙ (s .made .is ∙ ap (λ (l : List FugueSpan). plain (Units.unitAt (spanOf (s .e) (s .made .lam) (s .made .c) l) (s .made .k))) (same (s .e))) } }
+          let s : Src done h (t .0) = r .src (t .0) (t .1) in
+          record {
+            e = s .e;
+            isIn = s .isIn;
+            made = record {
+              lam = s .made .lam;
+              c = s .made .c;
+              act = s .made .act;
+              k = s .made .k;
+              small = s .made .small;
+              is = sym (t .2) ∙ (s .made .is ∙ ap (λ (l : List FugueSpan). plain (Units.unitAt (spanOf (s .e) (s .made .lam) (s .made .c) l) (s .made .k))) (same (s .e)));
+            };
+          }
+
       has : (e : Edit) (k : ℕ) → (w : FugueSpan) × Mem w (h .list) × (w .id ≡ incId (e .id) k) → (w : FugueSpan) × Mem w (unitsAt v h) × (w .id ≡ incId (e .id) k)
       has e k t =
-        let u : (u : FugueSpan) × Mem u (unitsAt v h) × (plain u ≡ plain (t .0)) = plain-mem (unitsAt v h) (h .list) (sym same-plain) (t .0) (t .1) in
-        (u .0, u .1, plain-same (u .0) (t .0) (u .2) .id ∙ t .2)
+          let u : (u : FugueSpan) × Mem u (unitsAt v h) × (plain u ≡ plain (t .0)) = plain-mem (unitsAt v h) (h .list) (sym same-plain) (t .0) (t .1) in
+          (u .0, u .1, plain-same (u .0) (t .0) (u .2) .id ∙ t .2)
 
   pub store-checkout : (A : List Edit) → Store n done A h → Store n done A (checkout v h)
   unfolding checkout
-  store-checkout A st = record { holder = st .holder; order = st .order; from = st .from; units = units-at v h (st .units); counts = st .counts; fit = st .fit;
-    many = sym (alike-length (h .list) (unitsAt v h) (plain-alike (h .list) (unitsAt v h) same-plain)) ∙ st .many }
+  store-checkout A st = record {
+    holder = st .holder;
+    order = st .order;
+    from = st .from;
+    units = units-at v h (st .units);
+    counts = st .counts;
+    fit = st .fit;
+    many = sym (alike-length (h .list) (unitsAt v h) (plain-alike (h .list) (unitsAt v h) same-plain)) ∙ st .many;
+  }
 
 -- ---- every history made by calls
 
@@ -165,30 +192,58 @@ module _ (n spans targets : ℕ) where
   reached h (edited g e b c) = on (reached g b)
     where
       on : Reached n g → Reached n (arriveOf spans targets g e .1)
-      on t = record { units = arrive (t .units) e; is = arrive-left g (t .units) e (t .is) (back-of g t) c; done = e ∷ t .done; arrivals = t .arrivals ++ (e ∷ []); key = next .0; run = next .1;
-          store = store-next n (t .done) (t .arrivals) (t .units) (t .store) e arr (formed-e n (t .done) (t .arrivals) (t .units) (t .key) (t .run) (t .store) e spans targets ok)
+      on t = record {
+        units = arrive (t .units) e;
+        is = arrive-left g (t .units) e (t .is) (back-of g t) c;
+        done = e ∷ t .done;
+        arrivals = t .arrivals ++ (e ∷ []);
+        key = next .0;
+        run = next .1;
+        store = store-next n (t .done) (t .arrivals) (t .units) (t .store) e arr (formed-e n (t .done) (t .arrivals) (t .units) (t .key) (t .run) (t .store) e spans targets ok)
             (ids-e n (t .done) (t .arrivals) (t .units) (t .key) (t .run) (t .store) e spans targets ok) (five .edit);
-          edits = omega (arith, one-more (t .units) e, ltb-true (length (t .units .held)) EDITS (five .few));
-          reals = touched-arrive n (t .done) (t .units) (t .key) (t .run) (t .reals) e arr }
+        edits = omega (arith, one-more (t .units) e, ltb-true (length (t .units .held)) EDITS (five .few));
+        reals = touched-arrive n (t .done) (t .units) (t .key) (t .run) (t .reals) e arr;
+      }
         where
           ok : arriveCode spans targets (stored (t .units)) e ≡ 0
           ok = ap (λ (z : History). arriveCode spans targets z e) (sym (t .is)) ∙ c
+
           five : Five (Rattle.history.specs.Valid.valid spans targets (stored (t .units))) (Rattle.history.specs.Valid.editCode (t .units .held) e) (inside (e .act) (e .at) (unitsAt (e .context) (t .units))) (ltb (length (t .units .held)) EDITS) (Rattle.history.specs.Codes.arrivalFits spans targets (t .units) e)
           five = parts n (t .done) (t .arrivals) (t .units) (t .key) (t .run) (t .store) e spans targets ok
+
           arr : Arriving n (t .done) (t .units) e
           arr = arriving n (t .done) (t .arrivals) (t .units) (t .key) (t .run) (t .store) e spans targets ok
+
           next : (key2 : OptId → Key) × Run n (e ∷ t .done) (arrive (t .units) e) key2
           next = run-arrive n (t .done) (t .units) (t .key) (t .run) e arr
   reached h (checkedOut g v b c) = on (reached g b)
     where
       on : Reached n g → Reached n (checkoutOf spans targets g v .1)
-      on t = record { units = checkout v (t .units); is = checkout-left g (t .units) v (t .is) (back-of g t) c; done = t .done; arrivals = t .arrivals; key = t .key; run = run-checkout n (t .done) (t .units) (t .key) (t .run) v;
-        store = store-checkout n (t .done) (t .units) (t .key) (t .run) v (t .arrivals) (t .store); edits = omega (arith, same-held v (t .units), t .edits); reals = touched-checkout n (t .done) (t .units) (t .key) (t .run) (t .reals) v }
+      on t = record {
+        units = checkout v (t .units);
+        is = checkout-left g (t .units) v (t .is) (back-of g t) c;
+        done = t .done;
+        arrivals = t .arrivals;
+        key = t .key;
+        run = run-checkout n (t .done) (t .units) (t .key) (t .run) v;
+        store = store-checkout n (t .done) (t .units) (t .key) (t .run) v (t .arrivals) (t .store);
+        edits = omega (arith, same-held v (t .units), t .edits);
+        reals = touched-checkout n (t .done) (t .units) (t .key) (t .run) (t .reals) v;
+      }
   reached h (compared g v w out b c) = on (reached g b)
     where
       on : Reached n g → Reached n (deltaOf spans targets out g v w .1)
-      on t = record { units = checkout v (t .units); is = delta-left g (t .units) v w out (t .is) (back-of g t) c; done = t .done; arrivals = t .arrivals; key = t .key; run = run-checkout n (t .done) (t .units) (t .key) (t .run) v;
-        store = store-checkout n (t .done) (t .units) (t .key) (t .run) v (t .arrivals) (t .store); edits = omega (arith, same-held v (t .units), t .edits); reals = touched-checkout n (t .done) (t .units) (t .key) (t .run) (t .reals) v }
+      on t = record {
+        units = checkout v (t .units);
+        is = delta-left g (t .units) v w out (t .is) (back-of g t) c;
+        done = t .done;
+        arrivals = t .arrivals;
+        key = t .key;
+        run = run-checkout n (t .done) (t .units) (t .key) (t .run) v;
+        store = store-checkout n (t .done) (t .units) (t .key) (t .run) v (t .arrivals) (t .store);
+        edits = omega (arith, same-held v (t .units), t .edits);
+        reals = touched-checkout n (t .done) (t .units) (t .key) (t .run) (t .reals) v;
+      }
 
   on-units : (h : History) (t : Reached n h) → onUnits h ≡ t .units
   on-units h t = ap onUnits (t .is) ∙ back-of h t
@@ -216,8 +271,8 @@ module _ (n spans targets : ℕ) where
     where
       on : Reached n h → ltb (mag (pos (deletesIn v (h .held) i))) 32768 ≡ true
       on t =
-        let same : length (onUnits h .held) ≡ length (h .held) = (unfold onUnits in refl) in
-        lt-ltb (deletesIn v (h .held) i) 32768 (omega (arith, few-deletes v (h .held) i, t .edits, same, ap (λ (z : History). length (z .held)) (on-units h t)))
+          let same : length (onUnits h .held) ≡ length (h .held) = (unfold onUnits in refl) in
+          lt-ltb (deletesIn v (h .held) i) 32768 (omega (arith, few-deletes v (h .held) i, t .edits, same, ap (λ (z : History). length (z .held)) (on-units h t)))
 
   -- 12 is never given
   pub never-12 : (h : History) → ByCalls n spans targets h → (a b : Version) → every insertable (spansBetween a b (onUnits h)) ≡ true
@@ -225,7 +280,7 @@ module _ (n spans targets : ℕ) where
     where
       on : Reached n h → every insertable (spansBetween a b (onUnits h)) ≡ true
       on t = ap (λ (z : History). every insertable (spansBetween a b z)) (on-units h t)
-        ∙ no-12 n (t .done) (t .units) (t .key) (t .run) (t .reals) (real n (t .done) (t .units) (t .key) (t .run)) (t .store .units) a b
+          ∙ no-12 n (t .done) (t .units) (t .key) (t .run) (t .reals) (real n (t .done) (t .units) (t .key) (t .run)) (t .store .units) a b
 
 -- ---- checkouts and deletes move nothing
 
@@ -258,4 +313,4 @@ ids-app (u ∷ A) B = ap (λ (z : List Id). u .id ∷ z) (ids-app A B)
 pub delete-keeps-order : (at m : ℕ) (i : Id) (l : List FugueSpan) → ids (deleteUnits at m i l) ≡ ids l
 unfolding deleteUnits
 delete-keeps-order at m i l = ids-app (front l at) (deleteFirst (behind l at) m i)
-  ∙ (ap (λ (z : List Id). ids (front l at) ++ z) (first-keeps-order (behind l at) m i) ∙ (sym (ids-app (front l at) (behind l at)) ∙ ap ids (front-behind l at)))
+    ∙ (ap (λ (z : List Id). ids (front l at) ++ z) (first-keeps-order (behind l at) m i) ∙ (sym (ids-app (front l at) (behind l at)) ∙ ap ids (front-behind l at)))

@@ -83,28 +83,38 @@ after-first key (v ∷ l) (suc m) i s u k = go (activated (v .status)) k (after-
     -- no other unit has this id
     alone : (w : FugueSpan) → Mem w l → w .id ≡ v .id → ⊥
     alone w j d = Lt-irrefl (key (ref v)) (subst (λ (z : Id). Lt (key (ref v)) (key (At z))) d (s .0 w j))
+
     up : (ids : List Id) → After l ids u → (List·Memᴰ (u .id) (v .id ∷ ids) → HasReal u) → After (v ∷ l) (v .id ∷ ids) u
     up ids t g = record { was = t .was; wasIn = List·Memᴰ·tail (t .wasIn); same = t .same; stays = t .stays; given = g }
+
     later : (t : After l (map idOf (firstShown l m)) u) → (u .id ≡ v .id) ⊎ List·Memᴰ (u .id) (map idOf (firstShown l m)) → HasReal u
     later t (inl d) = absurd (alone (t .was) (t .wasIn) (t .same ∙ d))
     later t (inr j) = t .given j
+
     yes : (Mem u (deleteFirst l m (incId i 1)) → After l (map idOf (firstShown l m)) u) → (u ≡ deleteUnit i v) ⊎ Mem u (deleteFirst l m (incId i 1)) → After (v ∷ l) (v .id ∷ map idOf (firstShown l m)) u
     yes ih (inl d) =
-      let h : HasReal u = subst HasReal (sym d) (real-deleted i v) in
-      record { was = v; wasIn = List·Memᴰ·head refl; same = keep; stays = λ (x : HasReal v). h; given = λ (j : List·Memᴰ (u .id) (v .id ∷ map idOf (firstShown l m))). h }
+        let h : HasReal u = subst HasReal (sym d) (real-deleted i v) in
+        record { was = v; wasIn = List·Memᴰ·head refl; same = keep; stays = λ (x : HasReal v). h; given = λ (j : List·Memᴰ (u .id) (v .id ∷ map idOf (firstShown l m))). h }
       where
         keep : v .id ≡ u .id
         keep = (unfold deleteUnit withState in ap idOf (sym d))
     yes ih (inr j) = let t : After l (map idOf (firstShown l m)) u = ih j in up (map idOf (firstShown l m)) t (λ (x : List·Memᴰ (u .id) (v .id ∷ map idOf (firstShown l m))). later t (List·Memᴰ·cases-cons x))
+
     no : (Mem u (deleteFirst l (suc m) i) → After l (map idOf (firstShown l (suc m))) u) → (u ≡ v) ⊎ Mem u (deleteFirst l (suc m) i) → After (v ∷ l) (map idOf (firstShown l (suc m))) u
-    no ih (inl d) = record { was = v; wasIn = List·Memᴰ·head refl; same = ap idOf (sym d); stays = λ (x : HasReal v). subst HasReal (sym d) x;
-      given = λ (j : List·Memᴰ (u .id) (map idOf (firstShown l (suc m)))). absurd (clash (Memᴰ·of-map idOf (firstShown l (suc m)) j)) }
+    no ih (inl d) = record {
+      was = v;
+      wasIn = List·Memᴰ·head refl;
+      same = ap idOf (sym d);
+      stays = λ (x : HasReal v). subst HasReal (sym d) x;
+      given = λ (j : List·Memᴰ (u .id) (map idOf (firstShown l (suc m)))). absurd (clash (Memᴰ·of-map idOf (firstShown l (suc m)) j));
+    }
       where
         clash : (w : FugueSpan) × Mem w (firstShown l (suc m)) × (idOf w ≡ u .id) → ⊥
         clash t = alone (t .0) (first-in l (suc m) (t .0) (t .1)) (t .2 ∙ ap idOf d)
     no ih (inr j) = let t : After l (map idOf (firstShown l (suc m))) u = ih j in record { was = t .was; wasIn = List·Memᴰ·tail (t .wasIn); same = t .same; stays = t .stays; given = t .given }
+
     go : (b : Bool) → Mem u (cond b (deleteUnit i v ∷ deleteFirst l m (incId i 1)) (v ∷ deleteFirst l (suc m) i)) → (Mem u (deleteFirst l m (incId i 1)) → After l (map idOf (firstShown l m)) u)
-      → (Mem u (deleteFirst l (suc m) i) → After l (map idOf (firstShown l (suc m))) u) → After (v ∷ l) (map idOf (cond b (v ∷ firstShown l m) (firstShown l (suc m)))) u
+        → (Mem u (deleteFirst l (suc m) i) → After l (map idOf (firstShown l (suc m))) u) → After (v ∷ l) (map idOf (cond b (v ∷ firstShown l m) (firstShown l (suc m)))) u
     go true x ih ih2 = yes ih (List·Memᴰ·cases-cons x)
     go false x ih ih2 = no ih2 (List·Memᴰ·cases-cons x)
 
@@ -155,12 +165,13 @@ module _ (n : ℕ) (done : List Edit) (h : History) (key : OptId → Key) (r : R
       where
         new : (x o : OptId) (i : ℕ) → HasReal (Units.unitAt (withOrigins (newSpan (e .id) lam c) x o) i)
         new x o i = (incId (e .id) i, (unfold shift withOrigins newSpan realNew incOpt in ap (λ (b : Bool). incOpt (cond b Nothing (At (e .id))) i) (ne-eqb (e .id .peer) UNKNOWN-PEER (a .known))))
+
         go : Mem u l1 ⊎ Mem u (unitsOf (withOrigins (newSpan (e .id) lam c) (originLeft (e .at) l1) (originRight (e .at) l1))) → Mem u l1 ⊎ HasReal u
         go (inl j) = inl j
         go (inr j) =
-          let q : (i : ℕ) × (i < Rattle.span.specs.Span.lenSpan (withOrigins (newSpan (e .id) lam c) (originLeft (e .at) l1) (originRight (e .at) l1))) × (u ≡ Units.unitAt (withOrigins (newSpan (e .id) lam c) (originLeft (e .at) l1) (originRight (e .at) l1)) i)
-                = unit-from (withOrigins (newSpan (e .id) lam c) (originLeft (e .at) l1) (originRight (e .at) l1)) u j in
-          inr (subst HasReal (sym (q .2)) (new (originLeft (e .at) l1) (originRight (e .at) l1) (q .0)))
+            let q : (i : ℕ) × (i < Rattle.span.specs.Span.lenSpan (withOrigins (newSpan (e .id) lam c) (originLeft (e .at) l1) (originRight (e .at) l1))) × (u ≡ Units.unitAt (withOrigins (newSpan (e .id) lam c) (originLeft (e .at) l1) (originRight (e .at) l1)) i)
+            = unit-from (withOrigins (newSpan (e .id) lam c) (originLeft (e .at) l1) (originRight (e .at) l1)) u j in
+            inr (subst HasReal (sym (q .2)) (new (originLeft (e .at) l1) (originRight (e .at) l1) (q .0)))
 
     ids-natural : (l : List FugueSpan) → ((w : FugueSpan) → Mem w l → Mem w l1) → AllNatural (map idOf l)
     ids-natural [] f = tt
@@ -179,14 +190,21 @@ module _ (n : ℕ) (done : List Edit) (h : History) (key : OptId → Key) (r : R
       where
         B : List FugueSpan
         B = behind l1 (e .at)
+
         clash : Mem u (front l1 (e .at)) → (w : FugueSpan) × Mem w (firstShown (behind l1 (e .at)) m) × (idOf w ≡ u .id) → ⊥
         clash j q = Lt-irrefl (key (ref u)) (subst (λ (z : Id). Lt (key (ref u)) (key (At z))) (q .2) (sorted-cross key (front l1 (e .at)) (behind l1 (e .at)) sorted1 u (q .0) j (first-in (behind l1 (e .at)) m (q .0) (q .1))))
+
         go : Mem u (front l1 (e .at)) ⊎ Mem u (deleteFirst (behind l1 (e .at)) m target) → After l1 (map idOf (firstShown (behind l1 (e .at)) m)) u
-        go (inl j) = record { was = u; wasIn = subst (λ (z : List FugueSpan). Mem u z) (front-behind l1 (e .at)) (Memᴰ·append-left (behind l1 (e .at)) j); same = refl; stays = λ (x : HasReal u). x;
-          given = λ (i : List·Memᴰ (u .id) (map idOf (firstShown (behind l1 (e .at)) m))). absurd (clash j (Memᴰ·of-map idOf (firstShown (behind l1 (e .at)) m) i)) }
+        go (inl j) = record {
+          was = u;
+          wasIn = subst (λ (z : List FugueSpan). Mem u z) (front-behind l1 (e .at)) (Memᴰ·append-left (behind l1 (e .at)) j);
+          same = refl;
+          stays = λ (x : HasReal u). x;
+          given = λ (i : List·Memᴰ (u .id) (map idOf (firstShown (behind l1 (e .at)) m))). absurd (clash j (Memᴰ·of-map idOf (firstShown (behind l1 (e .at)) m) i));
+        }
         go (inr j) =
-          let q : After (behind l1 (e .at)) (map idOf (firstShown (behind l1 (e .at)) m)) u = after-first key (behind l1 (e .at)) m target (sorted-behind key l1 (e .at) (sorted-at (e .context))) u j in
-          record { was = q .was; wasIn = in-l1 (q .was) (q .wasIn); same = q .same; stays = q .stays; given = q .given }
+            let q : After (behind l1 (e .at)) (map idOf (firstShown (behind l1 (e .at)) m)) u = after-first key (behind l1 (e .at)) m target (sorted-behind key l1 (e .at) (sorted-at (e .context))) u j in
+            record { was = q .was; wasIn = in-l1 (q .was) (q .wasIn); same = q .same; stays = q .stays; given = q .given }
 
     one-act : (act : Act) → e .act ≡ act → (x : Held) → MemH x (h .held) ⊎ (x .took ≡ actTook act e l1) → (u : FugueSpan) → Mem u (actList act e l1) → inRanges (u .id) (x .took) ≡ true → HasReal u
     unfolding actList actTook
@@ -200,10 +218,11 @@ module _ (n : ℕ) (done : List Edit) (h : History) (key : OptId → Key) (r : R
       where
         taken-in : (w : FugueSpan) → Mem w (taken (e .at) m l1) → Mem w l1
         taken-in w j = unfold taken in in-l1 w (first-in (behind l1 (e .at)) m w j)
+
         go : After l1 (map idOf (taken (e .at) m l1)) u → MemH x (h .held) ⊎ (x .took ≡ rangesOf (map idOf (taken (e .at) m l1))) → HasReal u
         go q (inl mx) = q .stays (touched-at (e .context) x mx (q .was) (q .wasIn) (ap (λ (z : Id). inRanges z (x .took)) (q .same) ∙ i))
         go q (inr z) = q .given (ranges-from (map idOf (taken (e .at) m l1)) (u .id) (ids-natural (taken (e .at) m l1) taken-in)
-          (subst Natural (q .same) (natural-at (e .context) (q .was) (q .wasIn))) (ap (inRanges (u .id)) (sym z) ∙ i))
+            (subst Natural (q .same) (natural-at (e .context) (q .was) (q .wasIn))) (ap (inRanges (u .id)) (sym z) ∙ i))
 
     pub touched-arrive : Touched (arrive h e)
     unfolding Touched arrive hold
@@ -227,17 +246,17 @@ module _ (n : ℕ) (done : List Edit) (h : History) (key : OptId → Key) (r : R
       go : (b : Bool) → (below v (x .edit .id) && inRanges i (x .took)) ≡ b → ((deletesIn v l i ≡ 0 → ⊥) → (y : Held) × MemH y l × (inRanges i (y .took) ≡ true)) → (y : Held) × MemH y (x ∷ l) × (inRanges i (y .took) ≡ true)
       go true b ih = (x, List·Memᴰ·head refl, and-eq-true-iff (below v (x .edit .id)) (inRanges i (x .took)) .0 b .1)
       go false b ih =
-        let q : (y : Held) × MemH y l × (inRanges i (y .took) ≡ true) = ih (λ (z : deletesIn v l i ≡ 0). k (ap (λ (c : Bool). cond c (suc (deletesIn v l i)) (deletesIn v l i)) b ∙ z)) in
-        (q .0, List·Memᴰ·tail (q .1), q .2)
+          let q : (y : Held) × MemH y l × (inRanges i (y .took) ≡ true) = ih (λ (z : deletesIn v l i ≡ 0). k (ap (λ (c : Bool). cond c (suc (deletesIn v l i)) (deletesIn v l i)) b ∙ z)) in
+          (q .0, List·Memᴰ·tail (q .1), q .2)
 
   -- a placeholder unit that a version does not show was taken by a delete
   hidden-real : (v : Version) (u : FugueSpan) → Mem u (h .list) → Real u → activated (statusAt v (h .held) (u .id)) ≡ false → HasReal u
   unfolding Touched activated statusAt inVersion
   hidden-real v u m (inr q) e = q
   hidden-real v u m (inl p) e =
-    let s : (x : Held) × MemH x (h .held) × (inRanges (u .id) (x .took) ≡ true) = deletes-some v (h .held) (u .id) (eqb-false (deletesIn v (h .held) (u .id)) 0
-          (ap (λ (z : ℕ). not (not (eqb z UNKNOWN-PEER || below v (u .id))) && eqb (deletesIn v (h .held) (u .id)) 0) (sym p) ∙ e)) in
-    t (s .0) (s .1) u m (s .2)
+      let s : (x : Held) × MemH x (h .held) × (inRanges (u .id) (x .took) ≡ true) = deletes-some v (h .held) (u .id) (eqb-false (deletesIn v (h .held) (u .id)) 0
+      (ap (λ (z : ℕ). not (not (eqb z UNKNOWN-PEER || below v (u .id))) && eqb (deletesIn v (h .held) (u .id)) 0) (sym p) ∙ e)) in
+      t (s .0) (s .1) u m (s .2)
 
   unit-insertable : ((u : FugueSpan) → Mem u (h .list) → Real u) → (a b : Version) (u : FugueSpan) → Mem u (h .list) → insertable (Co.unitBetween a b (h .held) u) ≡ true
   unfolding insertable diffOf Co.unitBetween withState
@@ -245,6 +264,7 @@ module _ (n : ℕ) (done : List Edit) (h : History) (key : OptId → Key) (r : R
     where
       isReal-of : HasReal u → isReal (u .«real_id») ≡ true
       isReal-of q = ap isReal (q .1)
+
       go : (x : Bool) → activated (statusAt a (h .held) (u .id)) ≡ x → (y : Bool) → realIfCreated (cond x (cond y NotChanged Deleted) (cond y Created NotChanged)) (u .«real_id») ≡ true
       go true e true = refl
       go true e false = refl
@@ -271,6 +291,7 @@ module _ (n : ℕ) (done : List Edit) (h : History) (key : OptId → Key) (r : R
     where
       keep : (w : FugueSpan) → Unit1 w → Unit1 (Co.unitBetween a b (h .held) w)
       keep w k = unfold Co.unitBetween withState spanCode idsOk in k
+
       go : (w : FugueSpan) × Mem w (h .list) × (Co.unitBetween a b (h .held) w ≡ u) → Unit1 u
       go q = subst Unit1 (q .2) (keep (q .0) (f (q .0) (q .1)))
 
@@ -281,6 +302,7 @@ module _ (n : ℕ) (done : List Edit) (h : History) (key : OptId → Key) (r : R
     where
       ok : Rattle.span.proofs.Unique.AllUnits (unitsBetween a b h)
       ok = all-of (unitsBetween a b h) (units-between a b us)
+
       each : (u : FugueSpan) → Mem u (unitsBetween a b h) → insertable u ≡ true
       each u m = go (unfold unitsBetween in Memᴰ·of-map (Co.unitBetween a b (h .held)) (h .list) m)
         where

@@ -60,6 +60,7 @@ some-at {A} t (a ∷ l) x m e = go (List·Memᴰ·cases-cons m) (λ (k : List·M
     right : (b : Bool) → b || true ≡ true
     right true = refl
     right false = refl
+
     go : (x ≡ a) ⊎ List·Memᴰ x l → (List·Memᴰ x l → some t l ≡ true) → (t a || some t l) ≡ true
     go (inl d) ih = ap (λ (b : Bool). b || some t l) (ap t (sym d) ∙ e)
     go (inr k) ih = ap (λ (b : Bool). t a || b) (ih k) ∙ right (t a)
@@ -85,9 +86,9 @@ edit-units-length : (l : List Held) → length (editUnits l) ≡ sum (λ (e : Ed
 unfolding editUnits sum
 edit-units-length [] = refl
 edit-units-length (x ∷ l) =
-  let a : length (actUnits (x .edit .act) (x .edit)) ≡ made (x .edit .act) = one (x .edit .act) (x .edit) in
-  let b : length (editUnits l) ≡ sum (λ (e : Edit). made (e .act)) (arrived l) = edit-units-length l in
-  omega (arith, length-append (actUnits (x .edit .act) (x .edit)) (editUnits l))
+    let a : length (actUnits (x .edit .act) (x .edit)) ≡ made (x .edit .act) = one (x .edit .act) (x .edit) in
+    let b : length (editUnits l) ≡ sum (λ (e : Edit). made (e .act)) (arrived l) = edit-units-length l in
+    omega (arith, length-append (actUnits (x .edit .act) (x .edit)) (editUnits l))
   where
     one : (a : Act) (e : Edit) → length (actUnits a e) ≡ made a
     one (Insert lam c) e = unfold made newSpan in units-length (newSpan (e .id) lam c)
@@ -111,20 +112,26 @@ same-unit e lam c l k u q =
   where
     s : FugueSpan
     s = newSpan (e .id) lam c
+
     ei : u .id ≡ incId (e .id) k
     ei = ap (λ (z : FugueSpan). z .id) q
+
     el : u .lamport ≡ lam + k
     el = ap (λ (z : FugueSpan). z .lamport) q
+
     ec : u .content ≡ partChunk c k (suc k)
     ec = ap (λ (z : FugueSpan). z .content) q
+
     er : realPlain u ≡ realPlain (Units.unitAt (spanOf e lam c l) k)
     er = ap (λ (z : FugueSpan). z .«real_id») q
+
     known : ¬ (u .id .peer ≡ UNKNOWN-PEER) → u .«real_id» ≡ Units.unitAt (newSpan (e .id) lam c) k .«real_id»
     known d = go (ne-eqb (u .id .peer) UNKNOWN-PEER d) er
       where
         go : eqb (u .id .peer) UNKNOWN-PEER ≡ false → realPlain u ≡ realPlain (Units.unitAt (spanOf e lam c l) k) → u .«real_id» ≡ Units.unitAt (newSpan (e .id) lam c) k .«real_id»
         go b r = unfold realPlain shift withOrigins newSpan in
-          (sym (ap (λ (z : Bool). cond z Nothing (u .«real_id»)) b) ∙ (r ∙ ap (λ (z : Bool). cond z Nothing (Units.unitAt (newSpan (e .id) lam c) k .«real_id»)) (ap (λ (i : Id). eqb (i .peer) UNKNOWN-PEER) (sym ei) ∙ b)))
+            (sym (ap (λ (z : Bool). cond z Nothing (u .«real_id»)) b) ∙ (r ∙ ap (λ (z : Bool). cond z Nothing (Units.unitAt (newSpan (e .id) lam c) k .«real_id»)) (ap (λ (i : Id). eqb (i .peer) UNKNOWN-PEER) (sym ei) ∙ b)))
+
     real : Test (eqb (u .id .peer) UNKNOWN-PEER) (u .id .peer ≡ UNKNOWN-PEER) → (eqb (u .id .peer) UNKNOWN-PEER || sameOpt (u .«real_id») (Units.unitAt (newSpan (e .id) lam c) k .«real_id»)) ≡ true
     real (pass b d) = ap (λ (z : Bool). z || sameOpt (u .«real_id») (Units.unitAt (newSpan (e .id) lam c) k .«real_id»)) b
     real (fail b d) = ap₂ _||_ b (ap (λ (z : OptId). sameOpt (u .«real_id») z) (sym (known d)) ∙ sameOpt-refl (u .«real_id»))
@@ -132,10 +139,10 @@ same-unit e lam c l k u q =
 module _ (n : ℕ) (done A : List Edit) (h : History) (key : OptId → Key) (r : Run n done h key) (st : Store n done A h) where
   made-length : length (madeUnits h) ≡ length (h .list)
   made-length =
-    let a : length (madeUnits h) ≡ length (start (h .placeholder) .list) + length (editUnits (h .held)) = length-append (start (h .placeholder) .list) (editUnits (h .held)) in
-    let b : length (start (h .placeholder) .list) ≡ n = ap (λ (z : ℕ). length (start z .list)) (st .holder) ∙ start-list n .0 in
-    let c : length (editUnits (h .held)) ≡ sum (λ (e : Edit). made (e .act)) A = edit-units-length (h .held) ∙ ap (sum (λ (e : Edit). made (e .act))) (st .order) in
-    omega (arith, st .many)
+      let a : length (madeUnits h) ≡ length (start (h .placeholder) .list) + length (editUnits (h .held)) = length-append (start (h .placeholder) .list) (editUnits (h .held)) in
+      let b : length (start (h .placeholder) .list) ≡ n = ap (λ (z : ℕ). length (start z .list)) (st .holder) ∙ start-list n .0 in
+      let c : length (editUnits (h .held)) ≡ sum (λ (e : Edit). made (e .act)) A = edit-units-length (h .held) ∙ ap (sum (λ (e : Edit). made (e .act))) (st .order) in
+      omega (arith, st .many)
 
   unit-made : (u : FugueSpan) → Mem u (h .list) → some (sameUnit u) (madeUnits h) ≡ true
   unit-made u m = some-at (sameUnit u) (madeUnits h) (Units.unitAt (newSpan (s .e .id) (s .made .lam) (s .made .c)) (s .made .k)) (place (st .from (s .e) (s .isIn)))
@@ -143,23 +150,31 @@ module _ (n : ℕ) (done A : List Edit) (h : History) (key : OptId → Key) (r :
     where
       s : Src done h u
       s = r .src u m
+
       v : FugueSpan
       v = Units.unitAt (newSpan (s .e .id) (s .made .lam) (s .made .c)) (s .made .k)
+
       in-span : Mem v (unitsOf (newSpan (s .e .id) (s .made .lam) (s .made .c)))
       in-span = unit-in (newSpan (s .e .id) (s .made .lam) (s .made .c)) (s .made .k) (unfold newSpan in s .made .small)
+
       in-act : (x : Held) → x .edit ≡ s .e → Mem v (actUnits (x .edit .act) (x .edit))
       in-act x d = subst (λ (z : Edit). Mem v (actUnits (z .act) z)) (sym d) (subst (λ (a : Act). Mem v (actUnits a (s .e))) (sym (s .made .act)) in-span)
+
       in-start : s .e ≡ holder n → 1 ≤ n → Mem v (start n .list)
       in-start d b = start-list n .1 b v (subst (λ (w : FugueSpan). Mem v (unitsOf w)) same in-span)
         where
           act : Insert 0 (chunk UNKNOWN n) ≡ Insert (s .made .lam) (s .made .c)
           act = ap (λ (z : Edit). z .act) (sym d) ∙ s .made .act
+
           el : s .made .lam ≡ 0
           el = let q : Insert 0 (chunk UNKNOWN n) ≡ Insert (s .made .lam) (s .made .c) = act in let z : s .made .lam ≡ 0 = cc in z
+
           ec : s .made .c ≡ chunk UNKNOWN n
           ec = let q : Insert 0 (chunk UNKNOWN n) ≡ Insert (s .made .lam) (s .made .c) = act in let z : s .made .c ≡ chunk UNKNOWN n = cc in z
+
           same : newSpan (s .e .id) (s .made .lam) (s .made .c) ≡ placeholder n
           same = unfold placeholder in (λ i. newSpan (d i .id) (el i) (ec i))
+
       place : MemE (s .e) (base n) ⊎ InSet (s .e) A → Mem v (madeUnits h)
       place (inl k) = Memᴰ·append-left (editUnits (h .held)) (subst (λ (z : ℕ). Mem v (start z .list)) (sym (st .holder)) (in-start (base-is n (s .e) k .0) (base-is n (s .e) k .1)))
       place (inr k) = go (Memᴰ·of-map (λ (x : Held). x .edit) (h .held) (subst (λ (z : List Edit). InSet (s .e) z) (sym (st .order)) k))
@@ -177,9 +192,9 @@ module _ (n : ℕ) (done A : List Edit) (h : History) (key : OptId → Key) (r :
   unfolding targetList sum
   targets-length [] f = omega arith
   targets-length (x ∷ l) f =
-    let a : length (x .took) ≤ actLength (x .edit .act) = subst (λ (z : List Range). length z ≤ actLength (x .edit .act)) (sym (r .tooks x (f x (List·Memᴰ·head refl)) .2)) (took-few (x .edit .act) (x .edit) (before (x .edit) h)) in
-    let b : length (targetList l) ≤ sum (λ (e : Edit). actLength (e .act)) (arrived l) = targets-length l (λ (y : Held) (m : MemH y l). f y (List·Memᴰ·tail m)) in
-    omega (arith, length-append (x .took) (targetList l))
+      let a : length (x .took) ≤ actLength (x .edit .act) = subst (λ (z : List Range). length z ≤ actLength (x .edit .act)) (sym (r .tooks x (f x (List·Memᴰ·head refl)) .2)) (took-few (x .edit .act) (x .edit) (before (x .edit) h)) in
+      let b : length (targetList l) ≤ sum (λ (e : Edit). actLength (e .act)) (arrived l) = targets-length l (λ (y : Held) (m : MemH y l). f y (List·Memᴰ·tail m)) in
+      omega (arith, length-append (x .took) (targetList l))
 
   pub targets-few : length (targetList (h .held)) ≤ sum (λ (e : Edit). actLength (e .act)) A
   targets-few = subst (λ (z : List Edit). length (targetList (h .held)) ≤ sum (λ (e : Edit). actLength (e .act)) z) (st .order) (targets-length (h .held) (λ (x : Held) (m : MemH x (h .held)). m))
@@ -196,7 +211,7 @@ module _ (n : ℕ) (done A : List Edit) (h : History) (key : OptId → Key) (r :
   pub is-valid : (spans targets : ℕ) → length (join (h .list)) ≤ spans → length (h .list) ≤ UNITS → length (targetList (h .held)) ≤ targets → length (h .held) ≤ EDITS → valid spans targets (stored h) ≡ true
   unfolding valid stored fits
   is-valid spans targets a b c d = ap₂ _&&_
-    (ap₂ _&&_ (le-leb (length (join (h .list))) spans a) (ap₂ _&&_ (le-leb (length (targetList (h .held))) targets c) (le-leb (length (h .held)) EDITS d)))
-    (ap₂ _&&_ (well-joined key (h .list) (r .good) (st .units) b) (ap₂ _&&_ (st .fit)
+      (ap₂ _&&_ (le-leb (length (join (h .list))) spans a) (ap₂ _&&_ (le-leb (length (targetList (h .held))) targets c) (le-leb (length (h .held)) EDITS d)))
+      (ap₂ _&&_ (well-joined key (h .list) (r .good) (st .units) b) (ap₂ _&&_ (st .fit)
       (ap (λ (z : List FugueSpan). sameUnits z (madeUnits h) && every (targetsFit z) (h .held)) (expand-join (h .list) (all-of (h .list) (st .units)))
       ∙ ap₂ _&&_ same-units (every-of (targetsFit (h .list)) (h .held) (targets-fit n done h key r)))))

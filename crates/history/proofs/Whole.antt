@@ -43,6 +43,7 @@ above-add q p m (k ∷ v) h a = go (place p k)
   where
     G : Bool → Bool → Type 0
     G x y = above q (cond x (record { peer = p; many = pos m } ∷ (k ∷ v)) (cond y (record { peer = p; many = pos (m + number (k .many)) } ∷ v) (k ∷ addCount p m v))) ≡ true
+
     go : Place p k → G (ltb p (k .peer)) (eqb p (k .peer))
     go (less d x) = subst (λ (z : Bool). G z (eqb p (k .peer))) (sym x) (lt-ltb q p h)
     go (same d x y) = subst (λ (z : Bool). G z (eqb p (k .peer))) (sym x) (subst (λ (z : Bool). G false z) (sym y) (lt-ltb q p h))
@@ -55,6 +56,7 @@ rising-add p m (k ∷ v) r = go (place p k) (and-eq-true-iff (above (k .peer) v)
   where
     G : Bool → Bool → Type 0
     G x y = rising (cond x (record { peer = p; many = pos m } ∷ (k ∷ v)) (cond y (record { peer = p; many = pos (m + number (k .many)) } ∷ v) (k ∷ addCount p m v))) ≡ true
+
     go : Place p k → (above (k .peer) v ≡ true) × (rising v ≡ true) → (rising v ≡ true → rising (addCount p m v) ≡ true) → G (ltb p (k .peer)) (eqb p (k .peer))
     go (less d x) b ih = subst (λ (z : Bool). G z (eqb p (k .peer))) (sym x) (ap₂ _&&_ (lt-ltb p (k .peer) d) r)
     go (same d x y) b ih = subst (λ (z : Bool). G z (eqb p (k .peer))) (sym x) (subst (λ (z : Bool). G false z) (sym y) (ap₂ _&&_ (ap (λ (q : ℕ). above q v) d ∙ b .0) (b .1)))
@@ -67,6 +69,7 @@ counted-add p m (k ∷ v) h c = go (place p k) (and-eq-true-iff (leZ (pos 1) (k 
   where
     G : Bool → Bool → Type 0
     G x y = counted (cond x (record { peer = p; many = pos m } ∷ (k ∷ v)) (cond y (record { peer = p; many = pos (m + number (k .many)) } ∷ v) (k ∷ addCount p m v))) ≡ true
+
     go : Place p k → (leZ (pos 1) (k .many) ≡ true) × (counted v ≡ true) → (counted v ≡ true → counted (addCount p m v) ≡ true) → G (ltb p (k .peer)) (eqb p (k .peer))
     go (less d x) b ih = subst (λ (z : Bool). G z (eqb p (k .peer))) (sym x) (ap₂ _&&_ (le-leb 1 m h) c)
     go (same d x y) b ih = subst (λ (z : Bool). G z (eqb p (k .peer))) (sym x) (subst (λ (z : Bool). G false z) (sym y) (ap₂ _&&_ (le-leb 1 (m + number (k .many)) (omega arith)) (b .1)))
@@ -93,14 +96,16 @@ count-add p m (k ∷ v) r q = at (place p k) (and-eq-true-iff (above (k .peer) v
   where
     K : ℕ
     K = cond (eqb (k .peer) q) (number (k .many)) (countOf v q)
+
     G : Bool → Bool → Type 0
     G x y = countOf (cond x (record { peer = p; many = pos m } ∷ (k ∷ v)) (cond y (record { peer = p; many = pos (m + number (k .many)) } ∷ v) (k ∷ addCount p m v))) q ≡ cond (eqb p q) m 0 + cond (eqb (k .peer) q) (number (k .many)) (countOf v q)
+
     less-case : p < k .peer → above (k .peer) v ≡ true → rising v ≡ true → Test (eqb p q) (p ≡ q) → cond (eqb p q) m (cond (eqb (k .peer) q) (number (k .many)) (countOf v q)) ≡ cond (eqb p q) m 0 + cond (eqb (k .peer) q) (number (k .many)) (countOf v q)
     less-case h a b (fail t d) = ap (λ (z : Bool). cond z m (cond (eqb (k .peer) q) (number (k .many)) (countOf v q))) t ∙ (let e : cond (eqb (k .peer) q) (number (k .many)) (countOf v q) ≡ 0 + cond (eqb (k .peer) q) (number (k .many)) (countOf v q) = omega arith in e
-      ∙ ap (λ (z : Bool). cond z m 0 + cond (eqb (k .peer) q) (number (k .many)) (countOf v q)) (sym t))
+        ∙ ap (λ (z : Bool). cond z m 0 + cond (eqb (k .peer) q) (number (k .many)) (countOf v q)) (sym t))
     less-case h a b (pass t d) =
-      let none : cond (eqb (k .peer) q) (number (k .many)) (countOf v q) ≡ 0 = subst (λ (z : ℕ). cond (eqb (k .peer) z) (number (k .many)) (countOf v z) ≡ 0) d (none-below p (k ∷ v) below) in
-      ap (λ (z : Bool). cond z m (cond (eqb (k .peer) q) (number (k .many)) (countOf v q))) t ∙ (omega-step none ∙ ap (λ (z : Bool). cond z m 0 + cond (eqb (k .peer) q) (number (k .many)) (countOf v q)) (sym t))
+        let none : cond (eqb (k .peer) q) (number (k .many)) (countOf v q) ≡ 0 = subst (λ (z : ℕ). cond (eqb (k .peer) z) (number (k .many)) (countOf v z) ≡ 0) d (none-below p (k ∷ v) below) in
+        ap (λ (z : Bool). cond z m (cond (eqb (k .peer) q) (number (k .many)) (countOf v q))) t ∙ (omega-step none ∙ ap (λ (z : Bool). cond z m 0 + cond (eqb (k .peer) q) (number (k .many)) (countOf v q)) (sym t))
       where
         below : (c : Count) → List·Memᴰ c (k ∷ v) → p < c .peer
         below c mc = two (List·Memᴰ·cases-cons mc)
@@ -108,20 +113,24 @@ count-add p m (k ∷ v) r q = at (place p k) (and-eq-true-iff (above (k .peer) v
             two : (c ≡ k) ⊎ List·Memᴰ c v → p < c .peer
             two (inl e) = subst (λ (z : Count). p < z .peer) (sym e) h
             two (inr j) = omega (arith, rising-above (k .peer) v a b c j)
+
         omega-step : cond (eqb (k .peer) q) (number (k .many)) (countOf v q) ≡ 0 → m ≡ m + cond (eqb (k .peer) q) (number (k .many)) (countOf v q)
         omega-step e = omega arith
+
     same-case : p ≡ k .peer → cond (eqb p q) (m + number (k .many)) (countOf v q) ≡ cond (eqb p q) m 0 + cond (eqb (k .peer) q) (number (k .many)) (countOf v q)
     same-case d = subst (λ (z : ℕ). cond (eqb p q) (m + number (k .many)) (countOf v q) ≡ cond (eqb p q) m 0 + cond (eqb z q) (number (k .many)) (countOf v q)) d (go (eqb p q))
       where
         go : (b : Bool) → cond b (m + number (k .many)) (countOf v q) ≡ cond b m 0 + cond b (number (k .many)) (countOf v q)
         go true = refl
         go false = omega arith
+
     more-case : k .peer < p → countOf (addCount p m v) q ≡ cond (eqb p q) m 0 + countOf v q → Test (eqb (k .peer) q) (k .peer ≡ q) → Test (eqb p q) (p ≡ q)
-      → cond (eqb (k .peer) q) (number (k .many)) (countOf (addCount p m v) q) ≡ cond (eqb p q) m 0 + cond (eqb (k .peer) q) (number (k .many)) (countOf v q)
+        → cond (eqb (k .peer) q) (number (k .many)) (countOf (addCount p m v) q) ≡ cond (eqb p q) m 0 + cond (eqb (k .peer) q) (number (k .many)) (countOf v q)
     more-case h ih (fail t d) s = ap (λ (z : Bool). cond z (number (k .many)) (countOf (addCount p m v) q)) t ∙ (ih ∙ ap (λ (z : Bool). cond (eqb p q) m 0 + cond z (number (k .many)) (countOf v q)) (sym t))
     more-case h ih (pass t d) (pass s c) = absurd (let z : ⊥ = omega arith in z)
     more-case h ih (pass t d) (fail s c) = ap (λ (z : Bool). cond z (number (k .many)) (countOf (addCount p m v) q)) t
-      ∙ (let e : number (k .many) ≡ 0 + number (k .many) = omega arith in e ∙ ap₂ (λ (z w : Bool). cond z m 0 + cond w (number (k .many)) (countOf v q)) (sym s) (sym t))
+        ∙ (let e : number (k .many) ≡ 0 + number (k .many) = omega arith in e ∙ ap₂ (λ (z w : Bool). cond z m 0 + cond w (number (k .many)) (countOf v q)) (sym s) (sym t))
+
     at : Place p k → (above (k .peer) v ≡ true) × (rising v ≡ true) → (rising v ≡ true → countOf (addCount p m v) q ≡ cond (eqb p q) m 0 + countOf v q) → G (ltb p (k .peer)) (eqb p (k .peer))
     at (less d x) b ih = subst (λ (z : Bool). G z (eqb p (k .peer))) (sym x) (less-case d (b .0) (b .1) (eqb-test p q))
     at (same d x y) b ih = subst (λ (z : Bool). G z (eqb p (k .peer))) (sym x) (subst (λ (z : Bool). G false z) (sym y) (same-case d))
@@ -134,6 +143,8 @@ whole-of (e ∷ S) f = on (whole-of S (λ (g : Edit) (m : InSet g S). f g (List�
   where
     on : Whole S (wholeOf S) → Whole (e ∷ S) (addCount (e .id .peer) (size e) (wholeOf S))
     on t =
-      let b = and-eq-true-iff (rising (wholeOf S)) (counted (wholeOf S)) .0 (t .pairs) in
-      record { pairs = ap₂ _&&_ (rising-add (e .id .peer) (size e) (wholeOf S) (b .0)) (counted-add (e .id .peer) (size e) (wholeOf S) (f e (List·Memᴰ·head refl)) (b .1));
-        counts = λ (p : ℕ). count-add (e .id .peer) (size e) (wholeOf S) (b .0) p ∙ (unfold sum in ap (λ (k : ℕ). cond (eqb (e .id .peer) p) (size e) 0 + k) (t .counts p)) }
+        let b = and-eq-true-iff (rising (wholeOf S)) (counted (wholeOf S)) .0 (t .pairs) in
+        record {
+          pairs = ap₂ _&&_ (rising-add (e .id .peer) (size e) (wholeOf S) (b .0)) (counted-add (e .id .peer) (size e) (wholeOf S) (f e (List·Memᴰ·head refl)) (b .1));
+          counts = λ (p : ℕ). count-add (e .id .peer) (size e) (wholeOf S) (b .0) p ∙ (unfold sum in ap (λ (k : ℕ). cond (eqb (e .id .peer) p) (size e) 0 + k) (t .counts p));
+        }

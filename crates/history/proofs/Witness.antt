@@ -49,9 +49,11 @@ which e m = first (List·Memᴰ·cases-cons m)
     third : (e ≡ three) ⊎ InSet e [] → Which e
     third (inl d) = is3 d
     third (inr k) = absurd (List·Memᴰ·not-nil k)
+
     second : (e ≡ two) ⊎ InSet e (three ∷ []) → Which e
     second (inl d) = is2 d
     second (inr k) = third (List·Memᴰ·cases-cons k)
+
     first : (e ≡ one) ⊎ InSet e (two ∷ three ∷ []) → Which e
     first (inl d) = is1 d
     first (inr k) = second (List·Memᴰ·cases-cons k)
@@ -100,15 +102,19 @@ closed e f we wf = by (λ (z : Edit). closedFor (z .context) f ≡ true) (by (λ
     below1 = by (λ (z : Edit). closedFor (pair 1 1 ∷ []) z ≡ true) refl refl refl
 
 distinct : Once set
-distinct = ((λ (f : Edit) (m : InSet f (two ∷ three ∷ [])) (e : f ≡ one). after-one f e (List·Memᴰ·cases-cons m)),
-    ((λ (f : Edit) (m : InSet f (three ∷ [])) (e : f ≡ two). after-two f e (List·Memᴰ·cases-cons m)), ((λ (f : Edit) (m : InSet f []) (e : f ≡ three). List·Memᴰ·not-nil m), tt)))
+distinct = (
+  (λ (f : Edit) (m : InSet f (two ∷ three ∷ [])) (e : f ≡ one). after-one f e (List·Memᴰ·cases-cons m)),
+  ((λ (f : Edit) (m : InSet f (three ∷ [])) (e : f ≡ two). after-two f e (List·Memᴰ·cases-cons m)), ((λ (f : Edit) (m : InSet f []) (e : f ≡ three). List·Memᴰ·not-nil m), tt)),
+)
   where
     after-two : (f : Edit) → f ≡ two → (f ≡ three) ⊎ InSet f [] → ⊥
     after-two f e (inl d) = omega (arith, peer-of f two e, peer-of f three d)
     after-two f e (inr m) = List·Memᴰ·not-nil m
+
     after-one2 : (f : Edit) → f ≡ one → (f ≡ three) ⊎ InSet f [] → ⊥
     after-one2 f e (inl d) = omega (arith, peer-of f one e, peer-of f three d)
     after-one2 f e (inr m) = List·Memᴰ·not-nil m
+
     after-one : (f : Edit) → f ≡ one → (f ≡ two) ⊎ InSet f (three ∷ []) → ⊥
     after-one f e (inl d) = omega (arith, peer-of f one e, peer-of f two d)
     after-one f e (inr m) = after-one2 f e (List·Memᴰ·cases-cons m)
@@ -119,15 +125,16 @@ none-before e i h = absurd (let z : ⊥ = omega arith in z)
 well-formed : WellFormedSet set
 unfolding historyOpen
 well-formed = record {
-    formed = each (λ (e : Edit). actFormed (e .act) ≡ true) refl refl refl;
-    ids = each (λ (e : Edit). (roomOpt (At (e .id)) (size e) && actIds (e .act)) ≡ true) refl refl refl;
-    runOn = each (λ (e : Edit). (i : ℕ) → i < firstOf e → IdOf set (e .id .peer) i) (none-before one) (none-before two) (none-before three);
-    once = λ (e f : Edit) (me : InSet e set) (mf : InSet f set) (p i : ℕ) (a : Uses e p i) (b : Uses f p i). alone e f (which e me) (which f mf) (a .peer ∙ sym (b .peer));
-    noTwice = distinct;
-    pairs = each (λ (e : Edit). (rising (e .context) && counted (e .context)) ≡ true) refl refl refl;
-    within = each (λ (e : Edit). (p i : ℕ) → i < countOf (e .context) p → IdOf set p i) (λ (p i : ℕ) (h : i < 0). absurd (let z : ⊥ = omega arith in z)) covered covered;
-    closed = λ (e f : Edit) (me : InSet e set) (mf : InSet f set). closed e f (which e me) (which f mf);
-    earlier = each (λ (e : Edit). firstOf e ≤ countOf (e .context) (e .id .peer)) (omega arith) (omega arith) (omega arith) }
+  formed = each (λ (e : Edit). actFormed (e .act) ≡ true) refl refl refl;
+  ids = each (λ (e : Edit). (roomOpt (At (e .id)) (size e) && actIds (e .act)) ≡ true) refl refl refl;
+  runOn = each (λ (e : Edit). (i : ℕ) → i < firstOf e → IdOf set (e .id .peer) i) (none-before one) (none-before two) (none-before three);
+  once = λ (e f : Edit) (me : InSet e set) (mf : InSet f set) (p i : ℕ) (a : Uses e p i) (b : Uses f p i). alone e f (which e me) (which f mf) (a .peer ∙ sym (b .peer));
+  noTwice = distinct;
+  pairs = each (λ (e : Edit). (rising (e .context) && counted (e .context)) ≡ true) refl refl refl;
+  within = each (λ (e : Edit). (p i : ℕ) → i < countOf (e .context) p → IdOf set p i) (λ (p i : ℕ) (h : i < 0). absurd (let z : ⊥ = omega arith in z)) covered covered;
+  closed = λ (e f : Edit) (me : InSet e set) (mf : InSet f set). closed e f (which e me) (which f mf);
+  earlier = each (λ (e : Edit). firstOf e ≤ countOf (e .context) (e .id .peer)) (omega arith) (omega arith) (omega arith);
+}
 
 positions : Inside (start 2) (sortRank set set)
 unfolding historyOpen Inside
@@ -156,9 +163,18 @@ first-free : (f : Edit) → InSet f set → below [] (f .id) ≡ true → InSet 
 first-free f m h = absurd (nothing f (which f m) h)
 
 order1 : ArrivalOrder set set
-order1 = record { all = λ (e : Edit) (m : InSet e set). m; only = λ (e : Edit) (m : InSet e set). m; noTwice = distinct;
-  after = unfold After in (first-free, ((λ (f : Edit) (m : InSet f set) (h : below (pair 1 1 ∷ []) (f .id) ≡ true). List·Memᴰ·head (only-one f (which f m) h)),
-    ((λ (f : Edit) (m : InSet f set) (h : below (pair 1 1 ∷ []) (f .id) ≡ true). List·Memᴰ·tail (List·Memᴰ·head (only-one f (which f m) h))), tt))) }
+order1 = record {
+  all = λ (e : Edit) (m : InSet e set). m;
+  only = λ (e : Edit) (m : InSet e set). m;
+  noTwice = distinct;
+  after = unfold After in (
+    first-free,
+    (
+      (λ (f : Edit) (m : InSet f set) (h : below (pair 1 1 ∷ []) (f .id) ≡ true). List·Memᴰ·head (only-one f (which f m) h)),
+      ((λ (f : Edit) (m : InSet f set) (h : below (pair 1 1 ∷ []) (f .id) ≡ true). List·Memᴰ·tail (List·Memᴰ·head (only-one f (which f m) h))), tt),
+    ),
+  );
+}
 
 abbrev pub swapped : List Edit
 swapped = one ∷ three ∷ two ∷ []
@@ -174,31 +190,46 @@ swapped-in e m = first (List·Memᴰ·cases-cons m)
     third : (e ≡ two) ⊎ InSet e [] → InSet e set
     third (inl d) = List·Memᴰ·tail (List·Memᴰ·head d)
     third (inr k) = absurd (List·Memᴰ·not-nil k)
+
     second : (e ≡ three) ⊎ InSet e (two ∷ []) → InSet e set
     second (inl d) = List·Memᴰ·tail (List·Memᴰ·tail (List·Memᴰ·head d))
     second (inr k) = third (List·Memᴰ·cases-cons k)
+
     first : (e ≡ one) ⊎ InSet e (three ∷ two ∷ []) → InSet e set
     first (inl d) = List·Memᴰ·head d
     first (inr k) = second (List·Memᴰ·cases-cons k)
 
 distinct2 : Once swapped
-distinct2 = ((λ (f : Edit) (m : InSet f (three ∷ two ∷ [])) (e : f ≡ one). after-one f e (List·Memᴰ·cases-cons m)),
-    ((λ (f : Edit) (m : InSet f (two ∷ [])) (e : f ≡ three). after-three f e (List·Memᴰ·cases-cons m)), ((λ (f : Edit) (m : InSet f []) (e : f ≡ two). List·Memᴰ·not-nil m), tt)))
+distinct2 = (
+  (λ (f : Edit) (m : InSet f (three ∷ two ∷ [])) (e : f ≡ one). after-one f e (List·Memᴰ·cases-cons m)),
+  ((λ (f : Edit) (m : InSet f (two ∷ [])) (e : f ≡ three). after-three f e (List·Memᴰ·cases-cons m)), ((λ (f : Edit) (m : InSet f []) (e : f ≡ two). List·Memᴰ·not-nil m), tt)),
+)
   where
     after-three : (f : Edit) → f ≡ three → (f ≡ two) ⊎ InSet f [] → ⊥
     after-three f e (inl d) = omega (arith, peer-of f three e, peer-of f two d)
     after-three f e (inr m) = List·Memᴰ·not-nil m
+
     after-one2 : (f : Edit) → f ≡ one → (f ≡ two) ⊎ InSet f [] → ⊥
     after-one2 f e (inl d) = omega (arith, peer-of f one e, peer-of f two d)
     after-one2 f e (inr m) = List·Memᴰ·not-nil m
+
     after-one : (f : Edit) → f ≡ one → (f ≡ three) ⊎ InSet f (two ∷ []) → ⊥
     after-one f e (inl d) = omega (arith, peer-of f one e, peer-of f three d)
     after-one f e (inr m) = after-one2 f e (List·Memᴰ·cases-cons m)
 
 order2 : ArrivalOrder set swapped
-order2 = record { all = λ (e : Edit) (m : InSet e set). in-swapped e (which e m); only = swapped-in; noTwice = distinct2;
-  after = unfold After in (first-free, ((λ (f : Edit) (m : InSet f set) (h : below (pair 1 1 ∷ []) (f .id) ≡ true). List·Memᴰ·head (only-one f (which f m) h)),
-    ((λ (f : Edit) (m : InSet f set) (h : below (pair 1 1 ∷ []) (f .id) ≡ true). List·Memᴰ·tail (List·Memᴰ·head (only-one f (which f m) h))), tt))) }
+order2 = record {
+  all = λ (e : Edit) (m : InSet e set). in-swapped e (which e m);
+  only = swapped-in;
+  noTwice = distinct2;
+  after = unfold After in (
+    first-free,
+    (
+      (λ (f : Edit) (m : InSet f set) (h : below (pair 1 1 ∷ []) (f .id) ≡ true). List·Memᴰ·head (only-one f (which f m) h)),
+      ((λ (f : Edit) (m : InSet f set) (h : below (pair 1 1 ∷ []) (f .id) ≡ true). List·Memᴰ·tail (List·Memᴰ·head (only-one f (which f m) h))), tt),
+    ),
+  );
+}
 
 -- what the demand promises, of both
 pub promise1 : Promise 2 65536 65536 set set
