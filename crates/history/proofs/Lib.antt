@@ -22,3 +22,4 @@ pub mod Witness
 pub mod Accepts
 pub mod Reals
 pub mod Reached
+pub mod Shorter

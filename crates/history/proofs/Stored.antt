@@ -88,7 +88,7 @@ first-length (u ∷ l) (suc n) i = go (activated (u .status)) (first-length l n 
     go true x y = ap suc x
     go false x y = ap suc y
 
-act-length : (a : Act) (e : Edit) (l : List FugueSpan) → length (actList a e l) ≡ length l + made a
+pub act-length : (a : Act) (e : Edit) (l : List FugueSpan) → length (actList a e l) ≡ length l + made a
 unfolding actList made deleteUnits
 act-length (Insert lam c) e l =
     let n : length (unitsOf (withOrigins (newSpan (e .id) lam c) (originLeft (e .at) l) (originRight (e .at) l))) ≡ lenOf c = (unfold withOrigins newSpan in units-length (withOrigins (newSpan (e .id) lam c) (originLeft (e .at) l) (originRight (e .at) l))) in
@@ -97,7 +97,7 @@ act-length (Delete m reversed target) e l =
     let a : length (front l (e .at)) + length (behind l (e .at)) ≡ length l = sym (length-append (front l (e .at)) (behind l (e .at))) ∙ ap length (front-behind l (e .at)) in
     omega (arith, length-append (front l (e .at)) (deleteFirst (behind l (e .at)) m target), first-length (behind l (e .at)) m target)
 
-at-length : (v : Version) (h : History) → length (unitsAt v h) ≡ length (h .list)
+pub at-length : (v : Version) (h : History) → length (unitsAt v h) ≡ length (h .list)
 unfolding unitsAt
 at-length v h = length-map (h .list) (Co.unitAt v (h .held))
 
