@@ -21,5 +21,8 @@ pub mod Demand
 pub mod Witness
 pub mod Accepts
 pub mod Reals
-pub mod Reached
+pub mod Checkouts
 pub mod Shorter
+pub mod Rooms
+pub mod Reached
+pub mod Histories

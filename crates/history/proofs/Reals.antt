@@ -15,7 +15,7 @@ use Rattle.span.specs.Ids.{UNKNOWN-PEER, incId, incOpt}
 use Rattle.span.proofs.IdsLaws.{incOpt-zero}
 use Rattle.span.specs.Status.{status, activated}
 use Rattle.span.specs.declared.span.DiffStatus.the-variants.{NotChanged, Created, Deleted}
-use Rattle.span.specs.Span.{idsOk, spanCode, newSpan, realNew, shift, diffOf}
+use Rattle.span.specs.Span.{newSpan, realNew, shift, diffOf}
 use Rattle.span.proofs.SpanLaws.{span-ok}
 use Rattle.span.proofs.Views.{len-pos}
 use Rattle.span.specs.Units.{unitsOf, expand, Joined, join}
@@ -44,7 +44,7 @@ use Rattle.history.proofs.Stable.{Real}
 use Rattle.history.proofs.Arrive.{Arriving}
 use Rattle.history.proofs.Ranges.{AllNatural, ranges-from}
 use Rattle.history.proofs.Targets.{first-in, sorted-behind}
-use Rattle.history.proofs.WellUnits.{Unit1, Units1, all-of}
+use Rattle.history.proofs.WellUnits.{Units1, units-between, all-of}
 use Rattle.history.proofs.Valid.{every-of}
 
 abbrev pub HasReal : FugueSpan → Type 0
@@ -285,23 +285,13 @@ module _ (n : ℕ) (done : List Edit) (h : History) (key : OptId → Key) (r : R
       go (inl d) ih = ap insertable d ∙ (sym (first-insertable v) ∙ f (Units.unitAt v 0) (Memᴰ·append-left (expand l) (unit-in v 0 (len-pos (v .content) (span-ok v (j .0) .form)))))
       go (inr k) ih = ih k
 
-  units-between : (a b : Version) → Units1 (h .list) → Units1 (unitsBetween a b h)
-  unfolding unitsBetween
-  units-between a b f u m = go (Memᴰ·of-map (Co.unitBetween a b (h .held)) (h .list) m)
-    where
-      keep : (w : FugueSpan) → Unit1 w → Unit1 (Co.unitBetween a b (h .held) w)
-      keep w k = unfold Co.unitBetween withState spanCode idsOk in k
-
-      go : (w : FugueSpan) × Mem w (h .list) × (Co.unitBetween a b (h .held) w ≡ u) → Unit1 u
-      go q = subst Unit1 (q .2) (keep (q .0) (f (q .0) (q .1)))
-
   pub no-12 : ((u : FugueSpan) → Mem u (h .list) → Real u) → Units1 (h .list) → (a b : Version) → every insertable (spansBetween a b h) ≡ true
   unfolding spansBetween
   no-12 reals us a b = every-of insertable (join (unitsBetween a b h)) (spans-insertable (join (unitsBetween a b h)) (join-joined (unitsBetween a b h) ok)
       (λ (u : FugueSpan) (m : Mem u (expand (join (unitsBetween a b h)))). each u (subst (λ (z : List FugueSpan). Mem u z) (expand-join (unitsBetween a b h) ok) m)))
     where
       ok : Rattle.span.proofs.Unique.AllUnits (unitsBetween a b h)
-      ok = all-of (unitsBetween a b h) (units-between a b us)
+      ok = all-of (unitsBetween a b h) (units-between a b h us)
 
       each : (u : FugueSpan) → Mem u (unitsBetween a b h) → insertable u ≡ true
       each u m = go (unfold unitsBetween in Memᴰ·of-map (Co.unitBetween a b (h .held)) (h .list) m)

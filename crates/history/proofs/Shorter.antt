@@ -4,7 +4,6 @@ use mathlib.Core.Path.{_≡_, refl, sym, ap, ap₂, subst, _∙_}
 use mathlib.Core.Logic.{_⊎_, inl, inr}
 use mathlib.Core.Bool.{Bool, true, false, cond}
 use mathlib.Core.List.{List, [], _∷_, _++_, map, append-assoc, List·Memᴰ·head, List·Memᴰ·tail, List·Memᴰ·not-nil, List·Memᴰ·cases-cons, Memᴰ·of-map}
-use native.Mathlib.Omega.{arith}
 use lib.ListN.{length, length-map}
 use Rattle.span.specs.declared.ids.OptId.{OptId}
 use Rattle.span.specs.declared.span.OptStatus.the-variants as Opt
@@ -60,8 +59,8 @@ expand-all (s ∷ l) = expand-on s (join l) ∙ ap (λ (z : List FugueSpan). uni
 -- no list of well formed spans with these units is shorter
 pub shortest : (l us : List FugueSpan) → Ok l → expand l ≡ us → length (join us) ≤ length l
 shortest l us f e =
-  let q : join l ≡ join us = joined-is (join l) us (joined-all l f) (expand-all l ∙ e) in
-  subst (λ (z : List FugueSpan). length z ≤ length l) q (join-length l)
+    let q : join l ≡ join us = joined-is (join l) us (joined-all l f) (expand-all l ∙ e) in
+    subst (λ (z : List FugueSpan). length z ≤ length l) q (join-length l)
 
 -- ---- without diff_status
 
@@ -94,7 +93,7 @@ drop-expand : (l : List FugueSpan) → expand (map dropDiff l) ≡ map dropDiff 
 unfolding expand unitsOf
 drop-expand [] = refl
 drop-expand (s ∷ l) =
-  ap₂ (λ (a b : List FugueSpan). a ++ b) (ap (tab (Units.unitAt (dropDiff s)) 0) (same-length s) ∙ drop-units s 0 (lenSpan s)) (drop-expand l) ∙ sym (map-app (tab (Units.unitAt s) 0 (lenSpan s)) (expand l))
+    ap₂ (λ (a b : List FugueSpan). a ++ b) (ap (tab (Units.unitAt (dropDiff s)) 0) (same-length s) ∙ drop-units s 0 (lenSpan s)) (drop-expand l) ∙ sym (map-app (tab (Units.unitAt s) 0 (lenSpan s)) (expand l))
 
 drop-code : (s : FugueSpan) → spanCode (dropDiff s) ≡ spanCode s
 unfolding spanCode idsOk dropDiff withState
@@ -120,8 +119,8 @@ unfolding spansBetween unitsAt
 one-version a b h f =
     subst (λ (k : ℕ). length (join (map (Co.unitAt a (h .held)) (h .list))) ≤ k) (length-map (join (unitsBetween a b h)) dropDiff)
     (shortest (map dropDiff (join (unitsBetween a b h))) (map (Co.unitAt a (h .held)) (h .list))
-      (λ (s : FugueSpan) (m : Mem s (map dropDiff (join (unitsBetween a b h)))). one s (Memᴰ·of-map dropDiff (join (unitsBetween a b h)) m))
-      (drop-expand (join (unitsBetween a b h)) ∙ (ap (map dropDiff) (expand-join (unitsBetween a b h) (all-of (unitsBetween a b h) f)) ∙ (unfold unitsBetween in drop-between a b (h .held) (h .list)))))
+    (λ (s : FugueSpan) (m : Mem s (map dropDiff (join (unitsBetween a b h)))). one s (Memᴰ·of-map dropDiff (join (unitsBetween a b h)) m))
+    (drop-expand (join (unitsBetween a b h)) ∙ (ap (map dropDiff) (expand-join (unitsBetween a b h) (all-of (unitsBetween a b h) f)) ∙ (unfold unitsBetween in drop-between a b (h .held) (h .list)))))
   where
     one : (s : FugueSpan) → (t : FugueSpan) × Mem t (join (unitsBetween a b h)) × (dropDiff t ≡ s) → spanCode s ≡ 0
     one s q = ap spanCode (sym (q .2)) ∙ (drop-code (q .0) ∙ joined-ok (join (unitsBetween a b h)) (join-joined (unitsBetween a b h) (all-of (unitsBetween a b h) f)) (q .0) (q .1))

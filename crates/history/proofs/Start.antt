@@ -195,10 +195,13 @@ start-list zero = ((unfold start in refl), λ (b : 1 ≤ 0). absurd (let z : ⊥
 start-list (suc m) = (ap length (list0 m) ∙ length0 m, λ (b : 1 ≤ suc m) (w : FugueSpan) (k : Mem w (unitsOf (placeholder (suc m)))). subst (λ (z : List FugueSpan). Mem w z) (sym (list0 m)) k)
 
 -- they are well formed units
-holder-code : (m : ℕ) → suc m ≤ UNITS → spanCode (placeholder (suc m)) ≡ 0
+pub holder-code : (m : ℕ) → suc m ≤ UNITS → spanCode (placeholder (suc m)) ≡ 0
 unfolding placeholder newSpan realNew formed lenOf shapeOf roomOpt room
 holder-code m b = span-of (placeholder (suc m)) (suc m) refl (lt-ltb 0 (suc m) (omega arith)) (le-leb (0 + suc m) 2147483647 (omega arith)) (omega arith) refl
 
 pub start-units : (n : ℕ) → n ≤ UNITS → Units1 (start n .list)
 start-units zero b u m = let e : start 0 .list ≡ [] = (unfold start in refl) in absurd (List·Memᴰ·not-nil (subst (λ (z : List FugueSpan). Mem u z) e m))
 start-units (suc m) b u k = of-all (unitsOf (placeholder (suc m))) (span-units (placeholder (suc m)) (holder-code m b)) u (subst (λ (z : List FugueSpan). Mem u z) (list0 m) k)
+
+pub start-is : (m : ℕ) → start (suc m) .list ≡ unitsOf (placeholder (suc m))
+start-is = list0

@@ -40,7 +40,7 @@ use Rattle.fugue.proofs.Insert.{In, Good}
 use Rattle.fugue.proofs.Range.{front-behind}
 use Rattle.fugue.proofs.Splices.{insert-splice, splice-from, unit-in}
 use Rattle.history.specs.Edit.{Version, Held, History}
-use Rattle.history.specs.Checkout.{unitsAt}
+use Rattle.history.specs.Checkout.{unitsAt, unitsBetween}
 use Rattle.history.specs.Checkout as Co
 
 -- a well formed unit
@@ -76,6 +76,17 @@ units-at v h f u m = go (Memᴰ·of-map (Co.unitAt v (h .held)) (h .list) m)
   where
     go : (a : FugueSpan) × Mem a (h .list) × (Co.unitAt v (h .held) a ≡ u) → Unit1 u
     go t = subst Unit1 (t .2) (unit-at v (h .held) (t .0) (f (t .0) (t .1)))
+
+unit-between : (a b : Version) (held : List Held) (u : FugueSpan) → Unit1 u → Unit1 (Co.unitBetween a b held u)
+unfolding spanCode idsOk Co.unitBetween withState
+unit-between a b held u k = k
+
+pub units-between : (a b : Version) (h : History) → Units1 (h .list) → Units1 (unitsBetween a b h)
+unfolding unitsBetween
+units-between a b h f u m = go (Memᴰ·of-map (Co.unitBetween a b (h .held)) (h .list) m)
+  where
+    go : (w : FugueSpan) × Mem w (h .list) × (Co.unitBetween a b (h .held) w ≡ u) → Unit1 u
+    go t = subst Unit1 (t .2) (unit-between a b (h .held) (t .0) (f (t .0) (t .1)))
 
 -- ---- inserts
 
