@@ -25,7 +25,7 @@ use Rattle.history.specs.Arrive.{start, replay}
 use Rattle.history.specs.Tree.{sortRank}
 use Rattle.history.specs.Valid.{valid}
 use Rattle.history.specs.Codes.{onUnits, stored, made, checkoutCode, checkoutOf}
-use Rattle.history.specs.Demand.{InSet, firstOf, WellFormedSet, Inside, Limits, ArrivalOrder, wholeOf, noReal, sum, Promise}
+use Rattle.history.specs.Demand.{InSet, firstOf, WellFormedSet, Inside, Limits, ArrivalOrder, arriveAll, wholeOf, noReal, sum, Promise}
 use Rattle.history.proofs.Context.{count, clock, holds-known, count-known, count-unknown, base}
 use Rattle.history.proofs.Run.{MemH, Run}
 use Rattle.history.proofs.Start.{run-start}
@@ -134,3 +134,9 @@ module _ (n spans targets : ℕ) (S : List Edit) (wf : WellFormedSet S) (lim : L
     same = ap (λ (z : History). map noReal (expand (checkoutOf spans targets z v .1 .list))) (done .left) ∙ (ap (map noReal) list ∙ units-same n S wf inside fs ord v counts);
     walked = tree-walk n S wf inside fs ord v;
   }
+
+-- so any two arrival orders end with the same units in the same order
+pub orders-agree : (n spans targets : ℕ) (S : List Edit) → WellFormedSet S → Limits n spans targets S → Inside (start n) (sortRank S S) → (fs gs : List Edit) → ArrivalOrder S fs → ArrivalOrder S gs
+    → map noReal (expand (checkoutOf spans targets (arriveAll spans targets (stored (start n)) fs) (wholeOf S) .1 .list))
+    ≡ map noReal (expand (checkoutOf spans targets (arriveAll spans targets (stored (start n)) gs) (wholeOf S) .1 .list))
+orders-agree n spans targets S wf lim inside fs gs a b = demand3 n spans targets S wf lim inside fs a .same ∙ sym (demand3 n spans targets S wf lim inside gs b .same)
