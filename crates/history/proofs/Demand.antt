@@ -1,19 +1,20 @@
 -- THE DEMAND. From a well formed set of edits within the limits, each position inside what is visible at its context, and an empty or placeholder list with room:
 -- every arrival order that puts an edit after its context is accepted throughout, and checked out at the whole set it gives the units of the tree built from the
 -- set alone, in its order, which is the walk of the tree; real ids of placeholder units excepted.
-use Prim.Native.Nat.{ℕ, _+_, _≤_}
+use Prim.Native.Nat.{ℕ, zero, suc, _+_, _≤_}
 use mathlib.Core.Path.{_≡_, refl, sym, ap, _∙_}
 use mathlib.Core.Bool.{Bool, true, cond}
 use mathlib.Core.List.{List, [], map, List·Memᴰ}
 use native.Mathlib.Omega.{arith}
 use lib.Dec.{eqb, leb}
 use lib.ListN.{length, length-map}
-use borrow.Author.Tests.{le-leb}
+use borrow.Author.Tests.{le-leb, ne-eqb}
 use Rattle.span.specs.declared.ids.OptId.{OptId}
 use Rattle.span.specs.Ids.{UNKNOWN-PEER}
 use Rattle.span.specs.Units.{expand, join}
 use Rattle.span.proofs.Unique.{expand-join}
-use Rattle.rope.specs.Limits.{fits}
+use Rattle.rope.specs.Limits.{UNITS, fits}
+use Rattle.rope.specs.Codes.{placeholderCode}
 use Rattle.fugue.proofs.Keys.{Key}
 use Rattle.fugue.proofs.Tests.{Test, pass, fail, eqb-test}
 use Rattle.fugue.proofs.Clocks.{cnt, doneOf, in-range}
@@ -24,7 +25,7 @@ use Rattle.history.specs.Checkout as Co
 use Rattle.history.specs.Arrive.{start, replay}
 use Rattle.history.specs.Tree.{sortRank}
 use Rattle.history.specs.Valid.{valid}
-use Rattle.history.specs.Codes.{onUnits, stored, made, checkoutCode, checkoutOf}
+use Rattle.history.specs.Codes.{onUnits, stored, openCode, made, checkoutCode, checkoutOf}
 use Rattle.history.specs.Demand.{InSet, firstOf, WellFormedSet, Inside, Limits, ArrivalOrder, arriveAll, wholeOf, noReal, sum, Promise}
 use Rattle.history.proofs.Context.{count, clock, holds-known, count-known, count-unknown, base}
 use Rattle.history.proofs.Run.{MemH, Run}
@@ -39,6 +40,12 @@ use Rattle.history.proofs.Stored.{totals, no-15, held-in, Done, all-don
 
 four : (v k c f : Bool) → v ≡ true → k ≡ true → c ≡ true → f ≡ true → _≡_ {A = ℕ} (cond v (cond k (cond c (cond f 0 10) 7) 6) 15) 0
 four v k c f hv hk hc hf = rw (hv, hk, hc, hf)
+
+-- a placeholder of so many units is opened
+opens : (spans n : ℕ) → n ≤ UNITS → n ≤ spans → openCode spans n ≡ 0
+unfolding openCode placeholderCode fits
+opens spans zero a b = refl
+opens spans (suc m) a b = rw (ne-eqb (suc m) 0 (λ (d : suc m ≡ 0). omega arith), le-leb (suc m) UNITS a, le-leb 1 spans (omega arith))
 
 module _ (n spans targets : ℕ) (S : List Edit) (wf : WellFormedSet S) (lim : Limits n spans targets S) (inside : Inside (start n) (sortRank S S))
     (fs : List Edit) (ord : ArrivalOrder S fs) where
@@ -129,6 +136,7 @@ module _ (n spans targets : ℕ) (S : List Edit) (wf : WellFormedSet S) (lim : L
 
   pub demand3 : Promise n spans targets S fs
   demand3 = record {
+    opened = opens spans n (omega (arith, lim .units)) (omega (arith, lim .spanRoom));
     accepted = done .accepted;
     checked = ap (λ (z : History). checkoutCode spans targets z v) (done .left) ∙ code;
     same = ap (λ (z : History). map noReal (expand (checkoutOf spans targets z v .1 .list))) (done .left) ∙ (ap (map noReal) list ∙ units-same n S wf inside fs ord v counts);

@@ -22,7 +22,7 @@ use Rattle.history.specs.Checkout.{unitsAt}
 use Rattle.history.specs.Arrive.{start}
 use Rattle.history.specs.Tree.{treeArrive, treeOf}
 use Rattle.history.specs.Valid.{actFormed, actIds, actLength}
-use Rattle.history.specs.Codes.{stored, inside, made, arriveCode, arriveOf, checkoutCode, checkoutOf}
+use Rattle.history.specs.Codes.{stored, openCode, inside, made, arriveCode, arriveOf, checkoutCode, checkoutOf}
 
 -- ---------------------------------------------------------------- a set of edits
 
@@ -137,7 +137,9 @@ noReal u = withState u (u .status) (u .«diff_status») (realPlain u)
 
 -- what every arrival order fs of the set comes to
 pub record Promise (n spans targets : ℕ) (S fs : List Edit) : Type 0 where
-  -- it is accepted throughout
+  -- the start is opened
+  pub opened : openCode spans n ≡ 0
+  -- the order is accepted throughout
   pub accepted : Accepted spans targets (stored (start n)) fs
   -- checked out afterwards at the whole set
   pub checked : checkoutCode spans targets (arriveAll spans targets (stored (start n)) fs) (wholeOf S) ≡ 0
