@@ -23,7 +23,8 @@ use Rattle.fugue.proofs.ScanPlace.{Mem, Sorted, sorted-front}
 use Rattle.fugue.proofs.Tests.{Test, pass, fail, hasOl-test}
 use Rattle.fugue.proofs.Insert.{In, Good}
 use Rattle.fugue.proofs.Grow.{Mid, inA, isM, inB, mid, In-widen, add-good, next-hi}
-use Rattle.fugue.proofs.Range.{front-behind, Ends, ends, Past, past, putAt-seam, Placed, placed, xIn}
+use Rattle.fugue.proofs.Cursor.{front-behind, Ends, ends, Past, past, putAt-seam}
+use Rattle.fugue.proofs.Range.{Placed, placed, xIn}
 
 -- no unit has m's origin left: so m has no parent right
 no-ol-no-pr : (key : OptId → Key) (l : List FugueSpan) → Sorted key l → (m : FugueSpan) → ((w : FugueSpan) → Mem w l → ol w ≡ ol m → ⊥) → prOf l m ≡ Nothing

@@ -5,8 +5,10 @@ pub mod ScanPlace
 pub mod Tests
 pub mod Insert
 pub mod Grow
+pub mod Cursor
 pub mod Range
 pub mod InsertGood
+pub mod Rising
 pub mod Walk
 pub mod Past
 pub mod Sorts

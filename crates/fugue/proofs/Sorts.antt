@@ -20,7 +20,8 @@ use Rattle.fugue.proofs.ScanPlace.{Mem, Sorted}
 use Rattle.fugue.proofs.Tests.{Test, pass, fail, eqb-test, ltb-test}
 use Rattle.fugue.proofs.Insert.{Good}
 use Rattle.fugue.proofs.Grow.{widen}
-use Rattle.fugue.proofs.Walk.{IdSorted, good-is-walk}
+use Rattle.fugue.proofs.Rising.{IdSorted}
+use Rattle.fugue.proofs.Walk.{good-is-walk}
 
 ltZ-test : (a b : ℤ) → Test (ltZ a b) (LtZ a b)
 ltZ-test (pos a) (pos b) = ltb-test a b

@@ -10,7 +10,7 @@ use Rattle.span.specs.Span.{lenSpan}
 use Rattle.span.specs.Units.{tab, unitAt, unitsOf}
 use Rattle.rope.specs.Place.{front, behind, putAt, scanPlace, withOrigins, originLeft, originRight, insertUnits}
 use Rattle.fugue.proofs.ScanPlace.{Mem}
-use Rattle.fugue.proofs.Range.{front-behind}
+use Rattle.fugue.proofs.Cursor.{front-behind}
 use Rattle.fugue.proofs.Sorts.{Splice}
 
 putAt-splice : (n : ℕ) (new l : List FugueSpan) → Splice l new (putAt n new l)

@@ -21,7 +21,7 @@ use Rattle.rope.specs.Query.{placeholder}
 use Rattle.fugue.specs.Tree.{ref}
 use Rattle.fugue.proofs.Keys.{Key}
 use Rattle.fugue.proofs.ScanPlace.{Mem}
-use Rattle.fugue.proofs.Range.{front-behind}
+use Rattle.fugue.proofs.Cursor.{front-behind}
 use Rattle.fugue.proofs.Past.{pastOf}
 use Rattle.fugue.proofs.Alike.{alike-length, good-alike}
 use Rattle.history.specs.Edit.{Version, Insert, Edit, Held, History}

@@ -24,7 +24,7 @@ use Rattle.fugue.proofs.Tests.{Test, pass, fail, hasOl-test}
 use Rattle.fugue.proofs.Insert.{In}
 use Rattle.fugue.proofs.Past.{notFuture, originLeft-in}
 use Rattle.fugue.proofs.Alike.{Same, alike-map, sorted-alike, sorted-key}
-use Rattle.fugue.proofs.Walk.{keepIf-in, keepIf-keeps, sorted-unique, sorted-uniq}
+use Rattle.fugue.proofs.Rising.{keepIf-in, keepIf-keeps, sorted-unique, sorted-uniq}
 use Rattle.fugue.proofs.Counting.{countIf, count-same}
 use Rattle.fugue.proofs.Clocks.{cnt, Fits, Causal, in-range, disjoint, Covers, cover}
 use Rattle.history.specs.Edit.{Version, Insert, Edit, sizeOf, Held, History}

@@ -28,7 +28,7 @@ use Rattle.rope.specs.Delta.{isReal, realIfCreated, insertable}
 use Rattle.fugue.specs.Tree.{ref}
 use Rattle.fugue.proofs.Keys.{Key, Lt, Lt-irrefl}
 use Rattle.fugue.proofs.ScanPlace.{Mem, Sorted}
-use Rattle.fugue.proofs.Range.{front-behind}
+use Rattle.fugue.proofs.Cursor.{front-behind}
 use Rattle.fugue.proofs.Alike.{alike-map, sorted-alike}
 use Rattle.fugue.proofs.Splices.{insert-splice, splice-from, unit-from, unit-in}
 use Rattle.history.specs.Edit.{Version, Act, Insert, Delete, Edit, Held, History}

@@ -24,7 +24,7 @@ use Rattle.fugue.proofs.Keys.{Key}
 use Rattle.fugue.proofs.ScanPlace.{Mem}
 use Rattle.fugue.proofs.Insert.{In, Good}
 use Rattle.fugue.proofs.Past.{notFuture, originLeft-in}
-use Rattle.fugue.proofs.Walk.{keepIf-in}
+use Rattle.fugue.proofs.Rising.{keepIf-in}
 use Rattle.fugue.proofs.Clocks.{cnt, Fits, Causal, in-range}
 use Rattle.fugue.proofs.Counting.{NoTwice}
 use Rattle.history.specs.Edit.{Version, Act, Insert, Delete, Edit, sizeOf, Held, History}

@@ -18,7 +18,7 @@ use Rattle.rope.specs.Lists.{keepIf}
 use Rattle.rope.specs.Place.{front, behind, originLeft, originRight, shown}
 use Rattle.rope.specs.Change.{withState, orReal, deleteUnit, deleteFirst, deleteUnits, taken}
 use Rattle.fugue.proofs.ScanPlace.{Mem}
-use Rattle.fugue.proofs.Range.{front-behind}
+use Rattle.fugue.proofs.Cursor.{front-behind}
 use Rattle.fugue.proofs.Past.{notFuture, pastOf, shown-past, originLeft-past, originRight-past, taken-past}
 use Rattle.fugue.proofs.Alike.{Alike}
 use Rattle.fugue.proofs.Sorts.{Splice}

@@ -23,7 +23,7 @@ use Rattle.rope.specs.Place.{front, behind, originLeft, originRight, withOrigin
 use Rattle.rope.specs.Change.{deleteUnit, deleteFirst, deleteUnits}
 use Rattle.fugue.proofs.Keys.{Key}
 use Rattle.fugue.proofs.Tests.{Test, pass, fail, eqb-test}
-use Rattle.fugue.proofs.Range.{front-behind}
+use Rattle.fugue.proofs.Cursor.{front-behind}
 use Rattle.fugue.proofs.Splices.{insert-splice, splice-length}
 use Rattle.fugue.proofs.Clocks.{cnt, doneOf}
 use Rattle.history.specs.Edit.{Version, Act, Insert, Delete, Edit, sizeOf, size, Held, History}

@@ -20,7 +20,7 @@ use Rattle.fugue.proofs.Keys.{Key}
 use Rattle.fugue.proofs.ScanPlace.{Mem, Sorted}
 use Rattle.fugue.proofs.Past.{notFuture}
 use Rattle.fugue.proofs.Alike.{alike-map, sorted-alike}
-use Rattle.fugue.proofs.Walk.{keepIf-in, keepIf-keeps, sorted-unique, sorted-uniq}
+use Rattle.fugue.proofs.Rising.{keepIf-in, keepIf-keeps, sorted-unique, sorted-uniq}
 use Rattle.history.specs.Edit.{Version, Act, Insert, Delete, Edit, Range, Held, History}
 use Rattle.history.specs.Checkout.{inRanges, rangesOf}
 use Rattle.history.specs.Arrive.{actTook}

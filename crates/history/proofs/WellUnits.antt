@@ -37,7 +37,7 @@ use Rattle.fugue.proofs.Keys.{Key, Lt-irrefl, Lt}
 use Rattle.fugue.proofs.ScanPlace.{Mem, Sorted}
 use Rattle.fugue.proofs.Tests.{Test, pass, fail, memId-test}
 use Rattle.fugue.proofs.Insert.{In, Good}
-use Rattle.fugue.proofs.Range.{front-behind}
+use Rattle.fugue.proofs.Cursor.{front-behind}
 use Rattle.fugue.proofs.Splices.{insert-splice, splice-from, unit-in}
 use Rattle.history.specs.Edit.{Version, Held, History}
 use Rattle.history.specs.Checkout.{unitsAt, unitsBetween}
