@@ -3,6 +3,7 @@ pub mod Context
 pub mod Run
 pub mod Stable
 pub mod Arrive
+pub mod Seen
 pub mod Compare
 pub mod Start
 pub mod Converge

@@ -29,7 +29,7 @@ use Rattle.history.specs.Codes.{inside}
 use Rattle.history.proofs.Plain.{view, view-same, sees}
 use Rattle.history.proofs.Context.{count, Known, before, before-known, Natural}
 use Rattle.history.proofs.Run.{MemE, MemH, num, Run, unit-natural, seen-from}
-use Rattle.history.proofs.Compare.{sorted-sees, sorted-keep, behind-sub}
+use Rattle.history.proofs.Seen.{sorted-sees, sorted-keep, behind-sub}
 use Rattle.history.proofs.Ranges.{AllNatural, ranges-from, ranges-to, ranges-total, ranges-length, sameRanges-refl}
 
 abbrev idOf : FugueSpan → Id
