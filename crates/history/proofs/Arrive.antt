@@ -22,7 +22,7 @@ use Rattle.span.proofs.ForRope.{units-length}
 use Rattle.rope.specs.Place.{parentRight, originLeft, originRight, withOrigins, insertUnits, shown}
 use Rattle.rope.specs.Change.{withState, deleteUnits}
 use Rattle.fugue.specs.Tree.{ref}
-use Rattle.fugue.proofs.Order.{Older}
+use Rattle.fugue.proofs.Order.{Older, LtZ}
 use Rattle.fugue.proofs.Keys.{Key}
 use Rattle.fugue.proofs.ScanPlace.{Mem}
 use Rattle.fugue.proofs.Insert.{In, Good, pr-in}
@@ -223,13 +223,13 @@ module _ (n : ℕ) (done : List Edit) (h : History) (key : OptId → Key) (r : R
     unfolding unitsAt Co.unitAt withState
     newest w k d = go (Memᴰ·of-map (Co.unitAt (e .context) (h .held)) (h .list) k)
       where
-        go : (u : FugueSpan) × Mem u (h .list) × (Co.unitAt (e .context) (h .held) u ≡ w) → Rattle.fugue.proofs.Order.LtZ (w .id .counter) (e .id .counter)
+        go : (u : FugueSpan) × Mem u (h .list) × (Co.unitAt (e .context) (h .held) u ≡ w) → LtZ (w .id .counter) (e .id .counter)
         go t =
             let i : t .0 .id ≡ w .id = ap (λ (z : FugueSpan). z .id) (t .2) in
             let b : num (t .0) < cnt (clock n) done (t .0 .id .peer) = bound n done h key r (t .0) (t .1) in
             let b2 : num (t .0) < cnt (clock n) done (e .id .peer) = subst (λ (p : ℕ). num (t .0) < cnt (clock n) done p) (ap (λ (z : Id). z .peer) i ∙ d) b in
             let b3 : num (t .0) < first e = subst (λ (z : ℕ). num (t .0) < z) (a .fits .own) b2 in
-            subst₂ Rattle.fugue.proofs.Order.LtZ (sym (unit-natural n done h key r (t .0) (t .1)) ∙ ap (λ (z : Id). z .counter) i) (sym (a .natural)) b3
+            subst₂ LtZ (sym (unit-natural n done h key r (t .0) (t .1)) ∙ ap (λ (z : Id). z .counter) i) (sym (a .natural)) b3
 
     ix : In x l1
     ix = go (originLeft-in l1 (e .at) at1)

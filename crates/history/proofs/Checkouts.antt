@@ -12,7 +12,7 @@ use Rattle.span.specs.declared.ids.OptId.{OptId}
 use Rattle.span.specs.declared.ids.OptId.the-variants.{At}
 use Rattle.span.specs.declared.span.FugueSpan.{FugueSpan}
 use Rattle.span.specs.Chunk.{lenOf}
-use Rattle.span.specs.Ids.{incId}
+use Rattle.span.specs.Ids.{incId, UNKNOWN-PEER}
 use Rattle.span.specs.Status.{activated}
 use Rattle.span.specs.Units as Units
 use Rattle.rope.specs.Place.{front, behind}
@@ -50,7 +50,7 @@ module _ (n : ℕ) (done : List Edit) (h : History) (key : OptId → Key) (r : R
       after : History
       after = record { placeholder = h .placeholder; list = unitsAt v h; held = h .held }
 
-      go : Known f ⊎ (f .id .peer ≡ Rattle.span.specs.Ids.UNKNOWN-PEER) → before f h ≡ before f (record { placeholder = h .placeholder; list = unitsAt v h; held = h .held })
+      go : Known f ⊎ (f .id .peer ≡ UNKNOWN-PEER) → before f h ≡ before f (record { placeholder = h .placeholder; list = unitsAt v h; held = h .held })
       go (inr d) = before-unknown f h d ∙ sym (before-unknown f after d)
       go (inl k) = before-known f h k ∙ (ap pastOf (view-list (f .context) (h .held) (h .list) (unitsAt v h) same-plain) ∙ sym (before-known f after k))
 

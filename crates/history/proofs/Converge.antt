@@ -20,7 +20,7 @@ use Rattle.fugue.proofs.Past.{pastOf}
 use Rattle.fugue.proofs.Alike.{alike-map, good-alike}
 use Rattle.fugue.proofs.Sorts.{good-walk, splice-walk}
 use Rattle.fugue.proofs.Splices.{insert-splice}
-use Rattle.fugue.proofs.Clocks.{cnt, in-range, doneOf, Order}
+use Rattle.fugue.proofs.Clocks.{cnt, in-range, doneOf, Order, Covers, cover}
 use Rattle.history.specs.Edit.{Version, Act, Insert, Delete, Edit, sizeOf, History}
 use Rattle.history.specs.Checkout.{unitsAt}
 use Rattle.history.specs.Checkout as Co
@@ -34,6 +34,8 @@ use Rattle.history.proofs.Run.{MemE, first, Run, bound, unit-natural}
 use Rattle.history.proofs.Stable.{inside-sees}
 use Rattle.history.proofs.Arrive.{Arriving, run-arrive}
 use Rattle.history.proofs.Compare.{versions-same}
+use Rattle.fugue.proofs.Tests.{Test, fail, ltb-test, pass}
+use lib.Dec.{ltb}
 
 -- edits that arrive one after another
 unfoldable pub Arrives : ℕ → List Edit → History → List Edit → Type 0
@@ -105,15 +107,15 @@ module _ (n : ℕ) (done1 done2 : List Edit) (h1 h2 : History) (key1 key2 : OptI
     (to : (e : Edit) → MemE e done1 → MemE e done2) (from : (e : Edit) → MemE e done2 → MemE e done1) (v : Version) (whole : (p : ℕ) → count n v p ≡ cnt (clock n) done1 p) where
   -- the counts are the same
   all2 : (p : ℕ) → cnt (clock n) done2 p ≤ cnt (clock n) done1 p
-  all2 p = go (Rattle.fugue.proofs.Tests.ltb-test (cnt (clock n) done1 p) (cnt (clock n) done2 p))
+  all2 p = go (ltb-test (cnt (clock n) done1 p) (cnt (clock n) done2 p))
     where
-      go : Rattle.fugue.proofs.Tests.Test (lib.Dec.ltb (cnt (clock n) done1 p) (cnt (clock n) done2 p)) (cnt (clock n) done1 p < cnt (clock n) done2 p) → cnt (clock n) done2 p ≤ cnt (clock n) done1 p
-      go (Rattle.fugue.proofs.Tests.pass b k) =
-          let c : Rattle.fugue.proofs.Clocks.Covers (clock n) done2 p (cnt (clock n) done1 p) = Rattle.fugue.proofs.Clocks.cover (clock n) done2 (r2 .causal) p (cnt (clock n) done1 p) k in
+      go : Test (ltb (cnt (clock n) done1 p) (cnt (clock n) done2 p)) (cnt (clock n) done1 p < cnt (clock n) done2 p) → cnt (clock n) done2 p ≤ cnt (clock n) done1 p
+      go (pass b k) =
+          let c : Covers (clock n) done2 p (cnt (clock n) done1 p) = cover (clock n) done2 (r2 .causal) p (cnt (clock n) done1 p) k in
           let d : first (c .e) + sizeOf (c .e .act) ≤ cnt (clock n) done1 (c .e .id .peer) = in-range (clock n) done1 (r1 .causal) (c .e) (from (c .e) (c .isIn)) .0 in
           let q : cnt (clock n) done1 (c .e .id .peer) ≡ cnt (clock n) done1 p = ap (cnt (clock n) done1) (c .peer) in
           absurd (let z : ⊥ = omega (arith, c .high) in z)
-      go (Rattle.fugue.proofs.Tests.fail b k) = omega arith
+      go (fail b k) = omega arith
 
   pub whole-same : map (view v (h1 .held)) (h1 .list) ≡ map (view v (h2 .held)) (h2 .list)
   whole-same = whole-sees n done1 h1 key1 r1 v (λ (p : ℕ). omega (arith, whole p))

@@ -4,7 +4,7 @@
 use Prim.Native.Nat.{ℕ, zero, suc, _+_, _≤_}
 use mathlib.Core.Path.{_≡_, refl, sym, ap, _∙_}
 use mathlib.Core.Bool.{Bool, true, cond}
-use mathlib.Core.List.{List, [], map, List·Memᴰ}
+use mathlib.Core.List.{List, [], map, List·Memᴰ, append-nil}
 use native.Mathlib.Omega.{arith}
 use lib.Dec.{eqb, leb}
 use lib.ListN.{length, length-map}
@@ -83,7 +83,7 @@ module _ (n spans targets : ℕ) (S : List Edit) (wf : WellFormedSet S) (lim : L
       go (fail b d) = count-known n v p d ∙ (held p ∙ st .counts p d)
 
   of-set : (x : Held) → MemH x (h .held) → InSet (x .edit) S
-  of-set = held-in n spans targets S wf lim fs ord fs D h (final .0) (final .1) st [] (mathlib.Core.List.append-nil fs)
+  of-set = held-in n spans targets S wf lim fs ord fs D h (final .0) (final .1) st [] (append-nil fs)
 
   -- 6 and 7 are not given
   named-v : named (h .held) v ≡ true
@@ -124,7 +124,7 @@ module _ (n spans targets : ℕ) (S : List Edit) (wf : WellFormedSet S) (lim : L
   code : checkoutCode spans targets (stored h) v ≡ 0
   unfolding checkoutCode stored
   code = four (valid spans targets (stored h)) (named (h .held) v) (closed (h .held) v) (fits spans (join (unitsAt v (onUnits (stored h)))))
-      (no-15 n spans targets S wf lim fs ord fs D h (final .0) (final .1) st [] (mathlib.Core.List.append-nil fs)) named-v closed-v fits-v
+      (no-15 n spans targets S wf lim fs ord fs D h (final .0) (final .1) st [] (append-nil fs)) named-v closed-v fits-v
 
   list : expand (checkoutOf spans targets (stored h) v .1 .list) ≡ unitsAt v h
   unfolding checkoutOf

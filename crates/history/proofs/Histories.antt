@@ -17,18 +17,19 @@ use Rattle.span.specs.Units.{expand}
 use Rattle.rope.specs.Lists.{every}
 use Rattle.rope.specs.Delta.{insertable}
 use Rattle.fugue.specs.Tree.{walk, sortId}
-use Rattle.history.specs.Edit.{Version, Held, History}
+use Rattle.history.specs.Edit.{Version, Edit, Held, History}
 use Rattle.history.specs.Version.{below}
 use Rattle.history.specs.Checkout.{inRanges, deletesIn, statusAt}
 use Rattle.history.specs.Deltas.{spansBetween}
-use Rattle.history.specs.Codes.{onUnits}
-use Rattle.history.specs.ByCalls.{ByCalls}
+use Rattle.history.specs.Valid.{valid}
+use Rattle.history.specs.Codes.{onUnits, arriveOf}
+use Rattle.history.specs.Demand.{Accepted, arriveAll}
+use Rattle.history.specs.ByCalls.{ByCalls, edited}
 use Rattle.history.proofs.Arrive.{real}
 use Rattle.history.proofs.Converge.{list-is-walk}
 use Rattle.history.proofs.Reals.{no-12}
 use Rattle.history.proofs.Reached.{Reached, reached, on-units}
 use Rattle.history.proofs.Valid.{is-valid}
-use Rattle.history.specs.Valid.{valid}
 
 module _ (n spans targets : ℕ) where
   -- THE LIST IS THE WALK, for histories made by history calls from their start (01, "Tree").
@@ -71,3 +72,9 @@ module _ (n spans targets : ℕ) where
     where
       on : Reached n spans targets h → valid spans targets h ≡ true
       on t = ap (valid spans targets) (t .is) ∙ is-valid n (t .done) (t .arrivals) (t .units) (t .key) (t .run) (t .store) spans targets (t .rooms .joined) (t .rooms .units) (t .rooms .ranges) (t .rooms .edits)
+
+  -- edits accepted one after another make a history made by calls
+  pub arrivals-are-calls : (es : List Edit) (h : History) → ByCalls n spans targets h → Accepted spans targets h es → ByCalls n spans targets (arriveAll spans targets h es)
+  unfolding Accepted arriveAll
+  arrivals-are-calls [] h c a = c
+  arrivals-are-calls (e ∷ es) h c a = arrivals-are-calls es (arriveOf spans targets h e .1) (edited h e c (a .0)) (a .1)

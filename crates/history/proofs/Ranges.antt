@@ -2,7 +2,7 @@
 use Prim.Native.Nat.{ℕ, suc, _+_, _<_, _≤_}
 use mathlib.Core.Path.{_≡_, refl, sym, ap, ap₂, _∙_}
 use mathlib.Core.Logic.{_⊎_, inl, inr}
-use mathlib.Core.Bool.{Bool, true, false, _&&_, _||_, cond, true≢false}
+use mathlib.Core.Bool.{Bool, true, false, _&&_, _||_, cond, true≢false, and-eq-true-iff}
 use mathlib.Core.List.{List, [], _∷_, List·Memᴰ, List·Memᴰ·head, List·Memᴰ·tail, List·Memᴰ·not-nil, List·Memᴰ·cases-cons}
 use native.Mathlib.Omega.{arith}
 use native.Mathlib.Decide.{decLt}
@@ -42,8 +42,8 @@ module _ (j : Id) (nj : Natural j) (r : Range) (nr : Natural (r .id)) where
   range-in : inRange j r ≡ true → (j .peer ≡ r .id .peer) × (at (r .id) ≤ at j) × (at j < at (r .id) + r .len)
   unfolding inRange
   range-in e =
-      let t = mathlib.Core.Bool.and-eq-true-iff (eqb (j .peer) (r .id .peer)) (leZ (r .id .counter) (j .counter) && ltZ (j .counter) (r .id .counter +ℤ pos (r .len))) .0 e in
-      let u = mathlib.Core.Bool.and-eq-true-iff (leZ (r .id .counter) (j .counter)) (ltZ (j .counter) (r .id .counter +ℤ pos (r .len))) .0 (t .1) in
+      let t = and-eq-true-iff (eqb (j .peer) (r .id .peer)) (leZ (r .id .counter) (j .counter) && ltZ (j .counter) (r .id .counter +ℤ pos (r .len))) .0 e in
+      let u = and-eq-true-iff (leZ (r .id .counter) (j .counter)) (ltZ (j .counter) (r .id .counter +ℤ pos (r .len))) .0 (t .1) in
       (eqb-true (j .peer) (r .id .peer) (t .0), leb-true (at (r .id)) (at j) (sym low ∙ u .0), ltb-true (at j) (at (r .id) + r .len) (sym high ∙ u .1))
 
 or-cases : (a b : Bool) → a || b ≡ true → (a ≡ true) ⊎ (b ≡ true)

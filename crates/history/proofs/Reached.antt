@@ -12,7 +12,7 @@ use Rattle.fugue.proofs.Keys.{Key}
 use Rattle.history.specs.Edit.{Version, Edit, History}
 use Rattle.history.specs.Checkout.{unitsAt, checkout}
 use Rattle.history.specs.Arrive.{start, arrive}
-use Rattle.history.specs.Codes.{onUnits, stored, inside, arriveCode, arriveOf, checkoutCode, checkoutOf, deltaCode, deltaOf}
+use Rattle.history.specs.Codes.{onUnits, stored, inside, arriveCode, arriveOf, checkoutCode, checkoutOf, deltaCode, deltaOf, arrivalFits}
 use Rattle.history.specs.ByCalls.{ByCalls, opened, edited, checkedOut, compared}
 use Rattle.history.proofs.Context.{base}
 use Rattle.history.proofs.Run.{Run}
@@ -24,6 +24,7 @@ use Rattle.history.proofs.Accepts.{Five, parts, formed-e, ids-e, arrivi
 use Rattle.history.proofs.Reals.{Touched, touched-arrive, touched-checkout}
 use Rattle.history.proofs.Rooms.{Rooms, open-few, rooms-start, rooms-arrive, rooms-checkout, checkout-room, delta-room}
 use Rattle.history.proofs.Checkouts.{run-checkout, store-checkout}
+use Rattle.history.specs.Valid.{editCode, valid}
 
 -- ---- every history made by calls
 
@@ -83,7 +84,7 @@ module _ (n spans targets : ℕ) where
           ok : arriveCode spans targets (stored (t .units)) e ≡ 0
           ok = ap (λ (z : History). arriveCode spans targets z e) (sym (t .is)) ∙ c
 
-          five : Five (Rattle.history.specs.Valid.valid spans targets (stored (t .units))) (Rattle.history.specs.Valid.editCode (t .units .held) e) (inside (e .act) (e .at) (unitsAt (e .context) (t .units))) (ltb (length (t .units .held)) EDITS) (Rattle.history.specs.Codes.arrivalFits spans targets (t .units) e)
+          five : Five (valid spans targets (stored (t .units))) (editCode (t .units .held) e) (inside (e .act) (e .at) (unitsAt (e .context) (t .units))) (ltb (length (t .units .held)) EDITS) (arrivalFits spans targets (t .units) e)
           five = parts n (t .done) (t .arrivals) (t .units) (t .key) (t .run) (t .store) e spans targets ok
 
           arr : Arriving n (t .done) (t .units) e

@@ -15,12 +15,12 @@ use Rattle.span.specs.Ids.{UNKNOWN-PEER, incId, incOpt}
 use Rattle.span.proofs.IdsLaws.{incOpt-zero}
 use Rattle.span.specs.Status.{status, activated}
 use Rattle.span.specs.declared.span.DiffStatus.the-variants.{NotChanged, Created, Deleted}
-use Rattle.span.specs.Span.{newSpan, realNew, shift, diffOf}
+use Rattle.span.specs.Span.{newSpan, realNew, shift, diffOf, lenSpan}
 use Rattle.span.proofs.SpanLaws.{span-ok}
 use Rattle.span.proofs.Views.{len-pos}
 use Rattle.span.specs.Units.{unitsOf, expand, Joined, join}
 use Rattle.span.specs.Units as Units
-use Rattle.span.proofs.Unique.{join-joined, expand-join}
+use Rattle.span.proofs.Unique.{join-joined, expand-join, AllUnits}
 use Rattle.rope.specs.Lists.{every, some}
 use Rattle.rope.specs.Place.{front, behind, withOrigins, originLeft, originRight, insertUnits}
 use Rattle.rope.specs.Change.{withState, orReal, deleteUnit, deleteFirst, deleteUnits, firstShown, taken}
@@ -169,7 +169,7 @@ module _ (n : ℕ) (done : List Edit) (h : History) (key : OptId → Key) (r : R
         go : Mem u l1 ⊎ Mem u (unitsOf (withOrigins (newSpan (e .id) lam c) (originLeft (e .at) l1) (originRight (e .at) l1))) → Mem u l1 ⊎ HasReal u
         go (inl j) = inl j
         go (inr j) =
-            let q : (i : ℕ) × (i < Rattle.span.specs.Span.lenSpan (withOrigins (newSpan (e .id) lam c) (originLeft (e .at) l1) (originRight (e .at) l1))) × (u ≡ Units.unitAt (withOrigins (newSpan (e .id) lam c) (originLeft (e .at) l1) (originRight (e .at) l1)) i)
+            let q : (i : ℕ) × (i < lenSpan (withOrigins (newSpan (e .id) lam c) (originLeft (e .at) l1) (originRight (e .at) l1))) × (u ≡ Units.unitAt (withOrigins (newSpan (e .id) lam c) (originLeft (e .at) l1) (originRight (e .at) l1)) i)
             = unit-from (withOrigins (newSpan (e .id) lam c) (originLeft (e .at) l1) (originRight (e .at) l1)) u j in
             inr (subst HasReal (sym (q .2)) (new (originLeft (e .at) l1) (originRight (e .at) l1) (q .0)))
 
@@ -290,7 +290,7 @@ module _ (n : ℕ) (done : List Edit) (h : History) (key : OptId → Key) (r : R
   no-12 reals us a b = every-of insertable (join (unitsBetween a b h)) (spans-insertable (join (unitsBetween a b h)) (join-joined (unitsBetween a b h) ok)
       (λ (u : FugueSpan) (m : Mem u (expand (join (unitsBetween a b h)))). each u (subst (λ (z : List FugueSpan). Mem u z) (expand-join (unitsBetween a b h) ok) m)))
     where
-      ok : Rattle.span.proofs.Unique.AllUnits (unitsBetween a b h)
+      ok : AllUnits (unitsBetween a b h)
       ok = all-of (unitsBetween a b h) (units-between a b h us)
 
       each : (u : FugueSpan) → Mem u (unitsBetween a b h) → insertable u ≡ true

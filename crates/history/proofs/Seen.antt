@@ -16,7 +16,7 @@ use Rattle.fugue.specs.Tree.{ref}
 use Rattle.fugue.proofs.Keys.{Key, sl, sr}
 use Rattle.fugue.proofs.Hang.{Hung, hungR, hungL, none≢at}
 use Rattle.fugue.proofs.ScanPlace.{Mem, Sorted}
-use Rattle.fugue.proofs.Tests.{Test, pass, fail}
+use Rattle.fugue.proofs.Tests.{Test, pass, fail, eqb-test}
 use Rattle.fugue.proofs.Past.{notFuture}
 use Rattle.fugue.proofs.Alike.{alike-map, sorted-alike}
 use Rattle.fugue.proofs.Rising.{keepIf-in}
@@ -29,6 +29,7 @@ use Rattle.history.specs.Arrive.{actTook}
 use Rattle.history.proofs.Plain.{view, view-same, sees}
 use Rattle.history.proofs.Context.{clock, before}
 use Rattle.history.proofs.Run.{MemE, MemH, num, first, Made, made-peer, made-num, made-small, Src, Run}
+use lib.Dec.{eqb}
 
 pub sorted-keep : (key : OptId → Key) (t : FugueSpan → Bool) (l : List FugueSpan) → Sorted key l → Sorted key (keepIf t l)
 unfolding keepIf
@@ -83,9 +84,9 @@ deletes-count v (x ∷ l) i = ap (λ (k : ℕ). cond (below v (x .edit .id) && i
 
 pub cnt-other : (n : ℕ) (d : List Edit) (e : Edit) (p c : ℕ) → cnt (clock n) d (e .id .peer) ≡ first e → c < cnt (clock n) (e ∷ d) p → (c < cnt (clock n) d p → ⊥) → (p ≡ e .id .peer) × (first e ≤ c) × (c < first e + sizeOf (e .act))
 unfolding cnt
-cnt-other n d e p c own h out = go (Rattle.fugue.proofs.Tests.eqb-test (e .id .peer) p)
+cnt-other n d e p c own h out = go (eqb-test (e .id .peer) p)
   where
-    go : Test (lib.Dec.eqb (e .id .peer) p) (e .id .peer ≡ p) → (p ≡ e .id .peer) × (first e ≤ c) × (c < first e + sizeOf (e .act))
+    go : Test (eqb (e .id .peer) p) (e .id .peer ≡ p) → (p ≡ e .id .peer) × (first e ≤ c) × (c < first e + sizeOf (e .act))
     go (pass t k) =
         let o : cnt (clock n) d p ≡ first e = subst (λ (z : ℕ). cnt (clock n) d z ≡ first e) k own in
         let h2 : c < first e + sizeOf (e .act) = subst (λ (b : Bool). c < cond b (first e + sizeOf (e .act)) (cnt (clock n) d p)) t h in

@@ -4,8 +4,8 @@ use Prim.Native.Nat.{ℕ, zero, suc, _+_, _≤_}
 use mathlib.Core.Path.{_≡_, refl, sym, ap, ap₂, subst, _∙_}
 use mathlib.Core.Logic.{_⊎_, inl, inr}
 use mathlib.Core.Bool.{Bool, true, false, not, _&&_, cond}
-use mathlib.Core.List.{List, [], _∷_, _++_, map, List·Memᴰ·head, List·Memᴰ·tail, Memᴰ·map, Memᴰ·of-map, nil≢cons, head-eq-of-cons-eq, tail-eq-of-cons-eq}
-use lib.Dec.{leb}
+use mathlib.Core.List.{List, [], _∷_, _++_, map, List·Memᴰ·head, List·Memᴰ·tail, Memᴰ·map, Memᴰ·of-map, nil≢cons, head-eq-of-cons-eq, tail-eq-of-cons-eq, Memᴰ·append-right}
+use lib.Dec.{leb, eqb}
 use lib.IntN.{pos}
 use Rattle.span.specs.declared.ids.Id.{Id}
 use Rattle.span.specs.declared.ids.OptId.{OptId}
@@ -84,9 +84,9 @@ plain-deleted : (i : Id) (u : FugueSpan) → Real u → plain (deleteUnit i u) �
 unfolding plain deleteUnit withState realPlain
 plain-deleted i u (inl e) = ap (λ (r : OptId). withState u (status false (pos 0)) Opt.Nothing r) (gone (orReal (u .«real_id») i) ∙ sym (gone (u .«real_id»)))
   where
-    gone : (r : OptId) → cond (lib.Dec.eqb (u .id .peer) UNKNOWN-PEER) Nothing r ≡ Nothing
-    gone r = ap (λ (p : ℕ). cond (lib.Dec.eqb p UNKNOWN-PEER) Nothing r) e
-plain-deleted i u (inr t) = ap (λ (r : OptId). withState u (status false (pos 0)) Opt.Nothing (cond (lib.Dec.eqb (u .id .peer) UNKNOWN-PEER) Nothing r))
+    gone : (r : OptId) → cond (eqb (u .id .peer) UNKNOWN-PEER) Nothing r ≡ Nothing
+    gone r = ap (λ (p : ℕ). cond (eqb p UNKNOWN-PEER) Nothing r) e
+plain-deleted i u (inr t) = ap (λ (r : OptId). withState u (status false (pos 0)) Opt.Nothing (cond (eqb (u .id .peer) UNKNOWN-PEER) Nothing r))
     (ap (λ (r : OptId). orReal r i) (t .1) ∙ sym (t .1))
 
 plain-first : (l : List FugueSpan) (n : ℕ) (i : Id) → ((u : FugueSpan) → Mem u l → Real u) → map plain (deleteFirst l n i) ≡ map plain l
@@ -105,7 +105,7 @@ unfolding deleteUnits
 plain-deletes at n i l f =
     map-app plain (front l at) (deleteFirst (behind l at) n i)
     ∙ (ap (λ (z : List FugueSpan). map plain (front l at) ++ z) (plain-first (behind l at) n i (λ (u : FugueSpan) (m : Mem u (behind l at)).
-    f u (subst (λ (z : List FugueSpan). Mem u z) (front-behind l at) (mathlib.Core.List.Memᴰ·append-right (front l at) m))))
+    f u (subst (λ (z : List FugueSpan). Mem u z) (front-behind l at) (Memᴰ·append-right (front l at) m))))
     ∙ (sym (map-app plain (front l at) (behind l at)) ∙ ap (map plain) (front-behind l at)))
 
 -- ---- later arrivals

@@ -42,6 +42,7 @@ use Rattle.fugue.proofs.Splices.{insert-splice, splice-from, unit-in}
 use Rattle.history.specs.Edit.{Version, Held, History}
 use Rattle.history.specs.Checkout.{unitsAt, unitsBetween}
 use Rattle.history.specs.Checkout as Co
+use Rattle.fugue.proofs.Hang.{none≢at}
 
 -- a well formed unit
 abbrev pub Unit1 : FugueSpan → Type 0
@@ -194,7 +195,7 @@ distinct-of key (u ∷ us) s = go (memId-test (At (u .id)) us) (distinct-of key 
 named-of : (r : OptId) (us : List FugueSpan) → In r us → named r us ≡ true
 unfolding named
 named-of Nothing us i = refl
-named-of (At j) us (inl e) = absurd (Rattle.fugue.proofs.Hang.none≢at (sym e))
+named-of (At j) us (inl e) = absurd (none≢at (sym e))
 named-of (At j) us (inr t) = go (memId-test (At j) us)
   where
     go : Test (memId (At j) us) ((w : FugueSpan) × Mem w us × (ref w ≡ At j)) → memId (At j) us ≡ true
