@@ -1,6 +1,6 @@
 -- Edits as clocks: an office, the counters it uses, and what its context holds of each office. Nothing is known of lists here. Edits that follow one
 -- another have ids that run on, none twice (L8.4); from the demand's conditions on a set every arrival order that puts an edit after its context
--- fits, and the set has such an order of its own, by the size of the context.
+-- fits, edit by edit.
 use Prim.Native.Nat.{ℕ, zero, suc, _+_, _<_, _≤_}
 use mathlib.Core.Path.{_≡_, refl, sym, ap, subst, _∙_}
 use mathlib.Core.Logic.{_⊎_, inl, inr}
