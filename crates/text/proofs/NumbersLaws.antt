@@ -5,13 +5,13 @@ use mathlib.Core.List.{List, [], _∷_}
 use Prim.Native.Nat.{ℕ, zero, suc, _+_, _-_, _*_, _≤_, _<_}
 use native.Mathlib.Omega.{arith}
 use native.Mathlib.Numerals.{add-one}
-use borrow.Author.Tests.{le-leb, lt-leb, leb-true}
+use borrow.Author.Tests.{le-leb, lt-leb, leb-true, eq-eqb, ne-eqb}
 use lib.Dec.{leb}
 use lib.ListN.{length, drop, getD, drop-of-length-le}
 use lib.Seq.{drop-cons}
 use Rattle.text.specs.declared.numbers.Number.{Number}
 use Rattle.text.specs.declared.numbers.Number.the-variants.{Is, Nothing}
-use Rattle.text.specs.Numbers.{isDigit, digits, value, upTo, decimalOf}
+use Rattle.text.specs.Numbers.{isDigit, digits, value, upTo, decimalOf, negated, signedOf}
 
 pub digit-range : (b : ℕ) → isDigit b ≡ true → (48 ≤ b) × (b ≤ 57)
 unfolding isDigit
@@ -56,3 +56,31 @@ pub decimal-empty : (most : ℕ) (s : List ℕ) → length s ≡ 0 → decimalOf
 unfolding decimalOf
 decimal-empty most [] h = refl
 decimal-empty most (b ∷ s) h = absurd (omega arith)
+
+-- a number that is read is not past most
+pub decimal-most : (most v : ℕ) (s : List ℕ) → decimalOf most s ≡ Is v → v ≤ most
+unfolding decimalOf upTo
+decimal-most most v [] e = let z : _≡_ {A = ℕ} 0 1 = cc in absurd (omega arith)
+decimal-most most v (b ∷ s) e = go (digits (b ∷ s)) (leb (value 0 (b ∷ s)) most) refl e
+  where
+    go : (d l : Bool) → leb (value 0 (b ∷ s)) most ≡ l → cond (d && l) (Is (value 0 (b ∷ s))) Nothing ≡ Is v → v ≤ most
+    go true true p q = let r : value 0 (b ∷ s) ≡ v = cc in omega (arith, leb-true (value 0 (b ∷ s)) most p)
+    go true false p q = let z : _≡_ {A = ℕ} 0 1 = cc in absurd (omega arith)
+    go false l p q = let z : _≡_ {A = ℕ} 0 1 = cc in absurd (omega arith)
+
+-- ---- signed
+
+pub signed-empty : (most : ℕ) (s : List ℕ) → length s ≡ 0 → Nothing ≡ signedOf most s
+unfolding signedOf
+signed-empty most [] h = refl
+signed-empty most (b ∷ s) h = absurd (omega arith)
+
+pub signed-minus : (most : ℕ) (s : List ℕ) (n : Number) → 0 < length s → getD s 0 0 ≡ 45 → decimalOf (most + 1) (drop 1 s) ≡ n → negated most n ≡ signedOf most s
+unfolding signedOf
+signed-minus most [] n h m e = absurd (omega arith)
+signed-minus most (b ∷ s) n h m e = rw (eq-eqb b 45 m, e)
+
+pub signed-plus : (most : ℕ) (s : List ℕ) → 0 < length s → (getD s 0 0 ≡ 45 → ⊥) → decimalOf most s ≡ signedOf most s
+unfolding signedOf
+signed-plus most [] h m = absurd (omega arith)
+signed-plus most (b ∷ s) h m = rw (ne-eqb b 45 m)
