@@ -1,3 +1,4 @@
 pub mod PartsLaws
 pub mod NumbersLaws
+pub mod NumeralLaws
 pub mod PutsLaws

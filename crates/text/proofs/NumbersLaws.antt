@@ -11,7 +11,7 @@ use lib.ListN.{length, drop, getD, drop-of-length-le}
 use lib.Seq.{drop-cons}
 use Rattle.text.specs.declared.numbers.Number.{Number}
 use Rattle.text.specs.declared.numbers.Number.the-variants.{Is, Nothing}
-use Rattle.text.specs.Numbers.{isDigit, digits, value, upTo, decimalOf, negated, signedOf}
+use Rattle.text.specs.Numbers.{isDigit, allDigits, value, upTo, decimalOf, negated, signedOf}
 
 pub digit-range : (b : ℕ) → isDigit b ≡ true → (48 ≤ b) × (b ≤ 57)
 unfolding isDigit
@@ -29,19 +29,19 @@ and-false false = refl
 
 pub upTo-past : (most v : ℕ) (s : List ℕ) → most < v → upTo most v s ≡ Nothing
 unfolding upTo
-upTo-past most v s h = rw (lt-leb (value v s) most (omega (arith, value-grows v s)), and-false (digits s))
+upTo-past most v s h = rw (lt-leb (value v s) most (omega (arith, value-grows v s)), and-false (allDigits s))
 
 pub upTo-end : (most v : ℕ) (s : List ℕ) (i : ℕ) → length s ≤ i → v ≤ most → Is v ≡ upTo most v (drop i s)
-unfolding upTo digits value
+unfolding upTo allDigits value
 upTo-end most v s i h k = rw (drop-of-length-le s h, le-leb v most k)
 
 module _ (most v : ℕ) (s : List ℕ) (i : ℕ) (h : i < length s) where
   pub upTo-other : isDigit (getD s i 0) ≡ false → upTo most v (drop i s) ≡ Nothing
-  unfolding upTo digits
+  unfolding upTo allDigits
   upTo-other e = rw (drop-cons s i 0 h, e)
 
   pub upTo-digit : isDigit (getD s i 0) ≡ true → upTo most v (drop i s) ≡ upTo most (v * 10 + (getD s i 0 - 48)) (drop (i + 1) s)
-  unfolding upTo digits value
+  unfolding upTo allDigits value
   upTo-digit e = rw (add-one, drop-cons s i 0 h, e)
 
   pub upTo-over : isDigit (getD s i 0) ≡ true → most < v * 10 + (getD s i 0 - 48) → upTo most v (drop i s) ≡ Nothing
@@ -61,7 +61,7 @@ decimal-empty most (b ∷ s) h = absurd (omega arith)
 pub decimal-most : (most v : ℕ) (s : List ℕ) → decimalOf most s ≡ Is v → v ≤ most
 unfolding decimalOf upTo
 decimal-most most v [] e = let z : _≡_ {A = ℕ} 0 1 = cc in absurd (omega arith)
-decimal-most most v (b ∷ s) e = go (digits (b ∷ s)) (leb (value 0 (b ∷ s)) most) refl e
+decimal-most most v (b ∷ s) e = go (allDigits (b ∷ s)) (leb (value 0 (b ∷ s)) most) refl e
   where
     go : (d l : Bool) → leb (value 0 (b ∷ s)) most ≡ l → cond (d && l) (Is (value 0 (b ∷ s))) Nothing ≡ Is v → v ≤ most
     go true true p q = let r : value 0 (b ∷ s) ≡ v = cc in omega (arith, leb-true (value 0 (b ∷ s)) most p)
