@@ -8,6 +8,7 @@ use crate::fields::status_at;
 use crate::fields::u32_at;
 use crate::fields::u64_at;
 use crate::same::is_chunk;
+use crate::same::is_id_span;
 use crate::same::is_span;
 use crate::same::same_chunk;
 use span::chunk::AnchorType;
@@ -16,21 +17,23 @@ use span::chunk::RichtextChunkKind;
 use span::chunk::RichtextChunkValue;
 use span::span::DiffStatus;
 use span::span::FugueSpan;
+use span::status::Status;
 
 // How many numbers the line of a call has; 0 where there is no such call.
 pub fn count(call: u64) -> usize {
     match call {
-        4 => 3,
+        4 | 28 => 3,
         3 | 5 | 6 | 12 => 4,
         1 | 2 => 5,
         7 | 8 | 13 => 6,
         9 | 10 | 11 => 7,
-        16 | 21 | 22 | 23 | 25 => 21,
-        24 => 22,
+        16 | 21 | 22 | 23 | 25 | 26 => 21,
+        24 | 27 => 22,
+        15 => 23,
         14 => 25,
         18 => 40,
         17 => 41,
-        19 => 58,
+        19 | 20 => 58,
         _ => 0,
     }
 }
@@ -66,15 +69,20 @@ fn chunk_agrees(call: u64, x: &[u64]) -> bool {
 fn span_agrees(call: u64, x: &[u64]) -> bool {
     match call {
         14 => new(x),
+        15 => id_span(x),
         16 => rle_len(x),
         17 => slice(x),
         18 => can_merge(x),
         19 => merge_right(x),
+        20 => merge_left(x),
         21 => diff(x),
         22 => is_activated(x),
         23 => is_activated_in_diff(x),
         24 => real_id(x),
         25 => activated_len(x),
+        26 => can_remove(x),
+        27 => id_start(x),
+        28 => Status::default().same(status_at(x, 1)),
         _ => false,
     }
 }
@@ -165,6 +173,12 @@ fn new(x: &[u64]) -> bool {
     is_span(FugueSpan::new(id_at(x, 1), u32_at(x, 3), chunk_at(x, 4)), span_at(x, 6))
 }
 
+// peer start end
+fn id_span(x: &[u64]) -> bool {
+    let end = store::id_of(u64_at(x, 20), u32_at(x, 22));
+    is_id_span(span_at(x, 1).id_span(), id_at(x, 20), end)
+}
+
 fn rle_len(x: &[u64]) -> bool {
     span_at(x, 1).rle_len() == u32_at(x, 20)
 }
@@ -179,6 +193,10 @@ fn can_merge(x: &[u64]) -> bool {
 
 fn merge_right(x: &[u64]) -> bool {
     is_span(span_at(x, 1).merge_right(span_at(x, 20)), span_at(x, 39))
+}
+
+fn merge_left(x: &[u64]) -> bool {
+    is_span(span_at(x, 1).merge_left(span_at(x, 20)), span_at(x, 39))
 }
 
 fn diff_number(d: DiffStatus) -> u64 {
@@ -207,4 +225,12 @@ fn real_id(x: &[u64]) -> bool {
 
 fn activated_len(x: &[u64]) -> bool {
     span_at(x, 1).activated_len() == u32_at(x, 20)
+}
+
+fn can_remove(x: &[u64]) -> bool {
+    flag(span_at(x, 1).can_remove()) == u64_at(x, 20)
+}
+
+fn id_start(x: &[u64]) -> bool {
+    span_at(x, 1).id_start().same(id_at(x, 20))
 }

@@ -1,6 +1,8 @@
 // Whether an answer is the recorded one.
 use span::chunk::ChunkAnswer;
 use span::chunk::RichtextChunk;
+use span::ids::Id;
+use span::ids::IdSpanAnswer;
 use span::span::FugueSpan;
 use span::span::SpanAnswer;
 
@@ -45,5 +47,23 @@ pub fn is_span(a: SpanAnswer, s: FugueSpan) -> bool {
     match a {
         SpanAnswer::Done(t) => same_span(t, s),
         SpanAnswer::Refused(_) => false,
+    }
+}
+
+// The ids of one peer from start up to end.
+pub fn is_id_span(a: IdSpanAnswer, start: Id, end: Id) -> bool {
+    match a {
+        IdSpanAnswer::Done(s) => {
+            let first = Id {
+                peer: s.peer,
+                counter: s.start,
+            };
+            let past = Id {
+                peer: s.peer,
+                counter: s.end,
+            };
+            first.same(start) && past.same(end)
+        }
+        IdSpanAnswer::Refused(_) => false,
     }
 }

@@ -88,6 +88,7 @@ fn on_chunks<W: Write>(list: &mut List<W>) {
 
 fn on_statuses<W: Write>(list: &mut List<W>) {
     let text = FugueSpan::new(IdFull::new(1, 0, 0), RichtextChunk::new_text(5..9));
+    list.status_default();
     for a in statuses() {
         list.status_is_activated(a);
         statuses().iter().for_each(|b| list.status_same(a, *b));
@@ -107,6 +108,8 @@ fn on_spans<W: Write>(list: &mut List<W>) {
         list.new_span(s.id, s.content);
         list.rle_len(s);
         list.id_span(s);
+        list.id_start(s);
+        list.can_remove(s);
         list.activated_len(s);
         list.real_id(s);
         list.real_id(FugueSpan { real_id: id(7, (COUNTER_END - s.content.len() as u32) as i32), ..s });

@@ -5,8 +5,8 @@
 //! A span is `peer counter lamport`, real id, status, diff_status, origin left, origin right, chunk: 19 numbers.
 use super::fugue_span::{DiffStatus, FugueSpan, RichtextChunk, RichtextChunkKind, RichtextChunkValue, Status};
 use super::AnchorType;
-use generic_btree::rle::{HasLength, Mergeable, Sliceable};
-use loro_common::{CompactId, IdFull};
+use generic_btree::rle::{CanRemove, HasLength, Mergeable, Sliceable};
+use loro_common::{CompactId, HasId, IdFull};
 use std::collections::BTreeMap;
 use std::io::Write;
 use std::panic::{catch_unwind, AssertUnwindSafe, PanicHookInfo};
@@ -271,5 +271,20 @@ impl<W: Write> List<W> {
 
     pub(super) fn activated_len(&mut self, s: FugueSpan) {
         self.call(25, "activated_len", span(&s), || words(&[s.activated_len() as i128]));
+    }
+
+    pub(super) fn can_remove(&mut self, s: FugueSpan) {
+        self.call(26, "can_remove", span(&s), || words(&[s.can_remove().into()]));
+    }
+
+    pub(super) fn id_start(&mut self, s: FugueSpan) {
+        self.call(27, "id_start", span(&s), || {
+            let i = s.id_start();
+            words(&[i.peer.into(), i.counter.into()])
+        });
+    }
+
+    pub(super) fn status_default(&mut self) {
+        self.call(28, "status_default", String::new(), || status(Status::default()));
     }
 }

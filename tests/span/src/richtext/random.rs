@@ -181,7 +181,7 @@ fn on_chunks<W: Write>(list: &mut List<W>, r: &mut Random) {
 fn on_spans<W: Write>(list: &mut List<W>, r: &mut Random) {
     let s = r.span();
     assert!(accepted(&s));
-    match r.below(16) {
+    match r.below(18) {
         0 => list.new_span(s.id, s.content),
         1 => list.id_span(s),
         2 => list.rle_len(s),
@@ -190,7 +190,9 @@ fn on_spans<W: Write>(list: &mut List<W>, r: &mut Random) {
         5 => list.is_activated_in_diff(s),
         6 => list.real_id(s),
         7 => list.activated_len(s),
-        8..=10 => {
+        8 => list.id_start(s),
+        9 => list.can_remove(s),
+        10..=12 => {
             let (from, to) = r.range(s.content.len() as u32);
             list.slice(s, from, to);
         }
