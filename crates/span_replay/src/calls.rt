@@ -93,7 +93,10 @@ fn flag(b: bool) -> u64 {
 }
 
 fn new_text(x: &[u64]) -> bool {
-    is_chunk(RichtextChunk::new_text(u32_at(x, 1), u32_at(x, 2)), chunk_at(x, 3))
+    is_chunk(
+        RichtextChunk::new_text(u32_at(x, 1), u32_at(x, 2)),
+        chunk_at(x, 3),
+    )
 }
 
 fn new_style_anchor(x: &[u64]) -> bool {
@@ -122,10 +125,10 @@ fn len(x: &[u64]) -> bool {
     chunk_at(x, 1).len() == u32_at(x, 3)
 }
 
-fn is_start(t: AnchorType) -> bool {
+fn anchor_number(t: AnchorType) -> u32 {
     match t {
-        AnchorType::Start => true,
-        AnchorType::End => false,
+        AnchorType::Start => 0,
+        AnchorType::End => 1,
     }
 }
 
@@ -134,15 +137,20 @@ fn is_value(v: RichtextChunkValue, kind: u64, a: u32, b: u32) -> bool {
     match v {
         RichtextChunkValue::Text { start, end } => kind == 0 && (start == a && end == b),
         RichtextChunkValue::StyleAnchor { id, anchor_type } => {
-            kind == 1 && (id == a && is_start(anchor_type) == (b == 0))
+            kind == 1 && (id == a && anchor_number(anchor_type) == b)
         }
-        RichtextChunkValue::Unknown(n) => kind == 2 && n == a,
-        RichtextChunkValue::MoveAnchor => kind == 3,
+        RichtextChunkValue::Unknown(n) => kind == 2 && (n == a && b == 0),
+        RichtextChunkValue::MoveAnchor => kind == 3 && (a == 0 && b == 0),
     }
 }
 
 fn value(x: &[u64]) -> bool {
-    is_value(chunk_at(x, 1).value(), u64_at(x, 3), u32_at(x, 4), u32_at(x, 5))
+    is_value(
+        chunk_at(x, 1).value(),
+        u64_at(x, 3),
+        u32_at(x, 4),
+        u32_at(x, 5),
+    )
 }
 
 fn chunk_can_merge(x: &[u64]) -> bool {
@@ -158,7 +166,10 @@ fn chunk_merge_left(x: &[u64]) -> bool {
 }
 
 fn chunk_slice(x: &[u64]) -> bool {
-    is_chunk(chunk_at(x, 1).slice(u32_at(x, 3), u32_at(x, 4)), chunk_at(x, 5))
+    is_chunk(
+        chunk_at(x, 1).slice(u32_at(x, 3), u32_at(x, 4)),
+        chunk_at(x, 5),
+    )
 }
 
 fn status_is_activated(x: &[u64]) -> bool {
@@ -170,7 +181,10 @@ fn status_same(x: &[u64]) -> bool {
 }
 
 fn new(x: &[u64]) -> bool {
-    is_span(FugueSpan::new(id_at(x, 1), u32_at(x, 3), chunk_at(x, 4)), span_at(x, 6))
+    is_span(
+        FugueSpan::new(id_at(x, 1), u32_at(x, 3), chunk_at(x, 4)),
+        span_at(x, 6),
+    )
 }
 
 // peer start end
@@ -184,7 +198,10 @@ fn rle_len(x: &[u64]) -> bool {
 }
 
 fn slice(x: &[u64]) -> bool {
-    is_span(span_at(x, 1).slice(u32_at(x, 20), u32_at(x, 21)), span_at(x, 22))
+    is_span(
+        span_at(x, 1).slice(u32_at(x, 20), u32_at(x, 21)),
+        span_at(x, 22),
+    )
 }
 
 fn can_merge(x: &[u64]) -> bool {

@@ -5,6 +5,7 @@ mod fields;
 mod line;
 mod same;
 mod tally;
+
 use tally::Tally;
 
 // A proved loop has to end, and nothing says that the input does: so the turns are counted, from a number that no run uses up.

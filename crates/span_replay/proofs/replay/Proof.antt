@@ -1,12 +1,9 @@
+-- `span_replay::replay` is safe and ends. The measure is the number of turns that are left. Assumes nothing.
 use mathlib.Core.Path.{_≡_}
 use lib.ListN.{length}
 use borrow.Author.Needs.{needs}
 use Rattle.span_replay.proofs.replay.Statement.{statement}
 use Rattle.span_replay.proofs.replay.Tie as tie
-use Rattle.span_replay.proofs.replay.Reads as reads
-use Rattle.span_replay.proofs.replay.Lts as lts
-use Rattle.span_replay.proofs.tally.Tally.new.Reads as new-reads
-use Rattle.span_replay.proofs.tally.block.Reads as block-reads
 
 abbrev Inv-loop : tie.InvT-loop
 Inv-loop line₀ tally₀ turns₀ line tally turns = length line ≡ length line₀

@@ -1,6 +1,6 @@
 //! Every call at both ends of each range that document 01 accepts.
 use super::fugue_span::{FugueSpan, RichtextChunk, Status};
-use super::inputs::{accepted, cut, id, near, ranges, sums, COUNTER_END, TEXT_END};
+use super::inputs::{accepted, cut, id, near, next, ranges, sums, COUNTER_END, TEXT_END};
 use super::list::List;
 use super::tracker::UNKNOWN_PEER_ID;
 use super::AnchorType;
@@ -114,6 +114,17 @@ fn on_spans<W: Write>(list: &mut List<W>) {
         list.real_id(s);
         list.real_id(FugueSpan { real_id: id(7, (COUNTER_END - s.content.len() as u32) as i32), ..s });
         ranges(s.content.len() as u32).iter().for_each(|(from, to)| list.slice(s, *from, *to));
+    }
+    // Each pair of chunks, in spans of which the second runs on from the first.
+    for c in chunks().into_iter().filter(|c| c.len() < COUNTER_END as usize) {
+        let a = FugueSpan::new(IdFull::new(1, 0, 0), c);
+        for b in chunks().into_iter().map(|d| next(&a, d)).filter(accepted) {
+            list.can_merge(a, b);
+            if a.can_merge(&b) {
+                list.merge_right(a, b);
+                list.merge_left(b, a);
+            }
+        }
     }
     for s in wholes() {
         for at in 1..s.content.len() as u32 {

@@ -46,6 +46,18 @@ pub(super) fn cut(s: &FugueSpan, at: u32) -> (FugueSpan, FugueSpan) {
     (s._slice(0..at as usize), s._slice(at as usize..s.content.len()))
 }
 
+/// What runs on from the span, with another chunk.
+pub(super) fn next(s: &FugueSpan, content: RichtextChunk) -> FugueSpan {
+    let len = s.content.len() as i32;
+    FugueSpan {
+        id: s.id.inc(len),
+        real_id: s.real_id.map(|r| r.inc(len)),
+        origin_left: id(s.id.peer, s.id.counter + len - 1),
+        content,
+        ..*s
+    }
+}
+
 fn near_ids(i: Option<CompactId>) -> Vec<Option<CompactId>> {
     match i {
         None => vec![id(0, 0), id(1, -1), id(UNKNOWN_PEER_ID, 2_147_483_646)],

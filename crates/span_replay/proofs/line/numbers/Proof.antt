@@ -1,15 +1,11 @@
+-- `span_replay::line::numbers` is safe and ends: `at` is within the line, and no more numbers than bytes have come. The measure is what is left of the line.
+-- Assumes nothing.
 use Prim.Native.Nat.{_≤_, _-_}
 use mathlib.Core.Path.{_≡_}
 use lib.ListN.{length}
-use native.Mathlib.Omega.{arith}
 use borrow.Author.Needs.{needs}
 use Rattle.span_replay.proofs.line.numbers.Statement.{statement}
 use Rattle.span_replay.proofs.line.numbers.Tie as tie
-use Rattle.span_replay.proofs.line.numbers.Reads as reads
-use Rattle.span_replay.proofs.line.numbers.Lts as lts
-use Rattle.span_replay.proofs.line.keep.Reads as keep-reads
-use Rattle.span_replay.proofs.line.number.Reads as number-reads
-use Rattle.span_replay.proofs.line.word_end.Reads as word-end-reads
 
 abbrev Inv-loop : tie.InvT-loop
 Inv-loop line x₀ n₀ at₀ x n at = (n ≤ at) × (at ≤ length line) × (length x ≡ length x₀)

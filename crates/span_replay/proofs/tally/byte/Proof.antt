@@ -1,12 +1,9 @@
+-- `span_replay::tally::byte` is safe and ends: the bytes that have come are a part of the buffer. Assumes nothing.
 use mathlib.Core.Path.{sym}
 use lib.Seq.{length-take-le}
 use borrow.Author.Needs.{needs}
 use Rattle.span_replay.proofs.tally.byte.Statement.{statement}
 use Rattle.span_replay.proofs.tally.byte.Tie as tie
-use Rattle.span_replay.proofs.tally.byte.Reads as reads
-use Rattle.span_replay.proofs.tally.byte.Lts as lts
-use Rattle.span_replay.proofs.tally.ended.Reads as ended-reads
-use Rattle.span_replay.proofs.tally.too_long.Reads as too-long-reads
 
 slice-reshare-prefix-ended : tie.Need-slice-reshare-prefix-ended
 slice-reshare-prefix-ended c = search needs

@@ -1,12 +1,10 @@
+-- `span_replay::tally::bytes` is safe and ends. The measure is what is left of the block. Assumes nothing.
 use Prim.Native.Nat.{_-_}
 use mathlib.Core.Path.{_≡_}
 use lib.ListN.{length}
 use borrow.Author.Needs.{needs}
 use Rattle.span_replay.proofs.tally.bytes.Statement.{statement}
 use Rattle.span_replay.proofs.tally.bytes.Tie as tie
-use Rattle.span_replay.proofs.tally.bytes.Reads as reads
-use Rattle.span_replay.proofs.tally.bytes.Lts as lts
-use Rattle.span_replay.proofs.tally.byte.Reads as byte-reads
 
 abbrev Inv-loop : tie.InvT-loop
 Inv-loop block line₀ t₀ i₀ line t i = length line ≡ length line₀
