@@ -18,6 +18,7 @@ use span::chunk::RichtextChunkValue;
 use span::span::DiffStatus;
 use span::span::FugueSpan;
 use span::status::Status;
+use text::numbers::wide;
 
 // How many numbers the line of a call has; 0 where there is no such call.
 pub fn count(call: u64) -> usize {
@@ -122,7 +123,7 @@ fn kind(x: &[u64]) -> bool {
 }
 
 fn len(x: &[u64]) -> bool {
-    chunk_at(x, 1).len() == u32_at(x, 3)
+    wide(chunk_at(x, 1).len()) == u64_at(x, 3)
 }
 
 fn anchor_number(t: AnchorType) -> u32 {
@@ -194,7 +195,7 @@ fn id_span(x: &[u64]) -> bool {
 }
 
 fn rle_len(x: &[u64]) -> bool {
-    span_at(x, 1).rle_len() == u32_at(x, 20)
+    wide(span_at(x, 1).rle_len()) == u64_at(x, 20)
 }
 
 fn slice(x: &[u64]) -> bool {
@@ -241,7 +242,7 @@ fn real_id(x: &[u64]) -> bool {
 }
 
 fn activated_len(x: &[u64]) -> bool {
-    span_at(x, 1).activated_len() == u32_at(x, 20)
+    wide(span_at(x, 1).activated_len()) == u64_at(x, 20)
 }
 
 fn can_remove(x: &[u64]) -> bool {

@@ -29,7 +29,10 @@ mod richtext {
 }
 
 fn main() {
-    let args: Vec<u64> = std::env::args().skip(1).map(|a| a.parse().expect("a number")).collect();
+    let args: Vec<u64> = std::env::args()
+        .skip(1)
+        .map(|a| a.parse().expect("a number"))
+        .collect();
     let [lines, seed] = args[..] else {
         eprintln!("usage: span_list LINES SEED");
         std::process::exit(2);

@@ -23,7 +23,10 @@ const INDEXES: [u32; 5] = [0, 1, TEXT_END, u32::MAX - 1, u32::MAX];
 const TIMES: [i16; 5] = [i16::MIN, -1, 0, 1, i16::MAX];
 
 fn chunks() -> Vec<RichtextChunk> {
-    let mut all: Vec<_> = TEXTS.iter().map(|(a, b)| RichtextChunk::new_text(*a..*b)).collect();
+    let mut all: Vec<_> = TEXTS
+        .iter()
+        .map(|(a, b)| RichtextChunk::new_text(*a..*b))
+        .collect();
     all.extend(UNKNOWNS.map(RichtextChunk::new_unknown));
     all.extend([0, u32::MAX].map(|i| RichtextChunk::new_style_anchor(i, AnchorType::Start)));
     all.extend([1, TEXT_END].map(|i| RichtextChunk::new_style_anchor(i, AnchorType::End)));
@@ -32,16 +35,29 @@ fn chunks() -> Vec<RichtextChunk> {
 }
 
 fn statuses() -> Vec<Status> {
-    [false, true].iter().flat_map(|f| TIMES.map(|delete_times| Status { future: *f, delete_times })).collect()
+    [false, true]
+        .iter()
+        .flat_map(|f| {
+            TIMES.map(|delete_times| Status {
+                future: *f,
+                delete_times,
+            })
+        })
+        .collect()
 }
 
 /// A fresh span of each chunk that a span can have, at the low and the high end of ids and lamports, and of the unknown peer.
 fn spans() -> Vec<FugueSpan> {
     let mut all = vec![];
-    for c in chunks().into_iter().filter(|c| c.len() <= COUNTER_END as usize) {
+    for c in chunks()
+        .into_iter()
+        .filter(|c| c.len() <= COUNTER_END as usize)
+    {
         let len = c.len() as u32;
         let high = ((COUNTER_END - len) as i32, u32::MAX - len);
-        for (peer, (counter, lamport)) in [(0, (0, 0)), (u64::MAX - 1, high), (UNKNOWN_PEER_ID, (0, 0))] {
+        for (peer, (counter, lamport)) in
+            [(0, (0, 0)), (u64::MAX - 1, high), (UNKNOWN_PEER_ID, (0, 0))]
+        {
             all.push(FugueSpan::new(IdFull::new(peer, counter, lamport), c));
         }
     }
@@ -51,15 +67,38 @@ fn spans() -> Vec<FugueSpan> {
 /// Spans to cut: text and unknown, with and without real id, diff_status and origins, in the midst and at the high end.
 fn wholes() -> Vec<FugueSpan> {
     let text = FugueSpan::new(IdFull::new(1, 10, 20), RichtextChunk::new_text(5..9));
-    let high = FugueSpan::new(IdFull::new(u64::MAX - 1, COUNTER_END as i32 - 3, u32::MAX - 3), RichtextChunk::new_text(TEXT_END - 3..TEXT_END));
-    let unknown = FugueSpan::new(IdFull::new(UNKNOWN_PEER_ID, 0, 0), RichtextChunk::new_unknown(3));
+    let high = FugueSpan::new(
+        IdFull::new(u64::MAX - 1, COUNTER_END as i32 - 3, u32::MAX - 3),
+        RichtextChunk::new_text(TEXT_END - 3..TEXT_END),
+    );
+    let unknown = FugueSpan::new(
+        IdFull::new(UNKNOWN_PEER_ID, 0, 0),
+        RichtextChunk::new_unknown(3),
+    );
     vec![
         text,
-        FugueSpan { real_id: id(9, 40), origin_left: id(2, 3), origin_right: id(3, 0), ..text },
-        FugueSpan { diff_status: Some(Status { future: true, delete_times: 2 }), ..unknown },
+        FugueSpan {
+            real_id: id(9, 40),
+            origin_left: id(2, 3),
+            origin_right: id(3, 0),
+            ..text
+        },
+        FugueSpan {
+            diff_status: Some(Status {
+                future: true,
+                delete_times: 2,
+            }),
+            ..unknown
+        },
         // The real ids end one short of the end: past that the Rust's can_merge panics.
-        FugueSpan { real_id: id(u64::MAX - 1, COUNTER_END as i32 - 4), ..high },
-        FugueSpan { real_id: id(9, 0), ..unknown },
+        FugueSpan {
+            real_id: id(u64::MAX - 1, COUNTER_END as i32 - 4),
+            ..high
+        },
+        FugueSpan {
+            real_id: id(9, 0),
+            ..unknown
+        },
     ]
 }
 
@@ -75,7 +114,9 @@ fn on_chunks<W: Write>(list: &mut List<W>) {
         list.kind(a);
         list.len(a);
         list.value(a);
-        ranges(a.len() as u32).iter().for_each(|(from, to)| list.chunk_slice(a, *from, *to));
+        ranges(a.len() as u32)
+            .iter()
+            .for_each(|(from, to)| list.chunk_slice(a, *from, *to));
         for b in chunks().into_iter().filter(|b| sums(&a, b)) {
             list.chunk_can_merge(a, b);
             if a.can_merge(&b) {
@@ -112,11 +153,19 @@ fn on_spans<W: Write>(list: &mut List<W>) {
         list.can_remove(s);
         list.activated_len(s);
         list.real_id(s);
-        list.real_id(FugueSpan { real_id: id(7, (COUNTER_END - s.content.len() as u32) as i32), ..s });
-        ranges(s.content.len() as u32).iter().for_each(|(from, to)| list.slice(s, *from, *to));
+        list.real_id(FugueSpan {
+            real_id: id(7, (COUNTER_END - s.content.len() as u32) as i32),
+            ..s
+        });
+        ranges(s.content.len() as u32)
+            .iter()
+            .for_each(|(from, to)| list.slice(s, *from, *to));
     }
     // Each pair of chunks, in spans of which the second runs on from the first.
-    for c in chunks().into_iter().filter(|c| c.len() < COUNTER_END as usize) {
+    for c in chunks()
+        .into_iter()
+        .filter(|c| c.len() < COUNTER_END as usize)
+    {
         let a = FugueSpan::new(IdFull::new(1, 0, 0), c);
         for b in chunks().into_iter().map(|d| next(&a, d)).filter(accepted) {
             list.can_merge(a, b);

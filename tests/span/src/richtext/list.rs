@@ -3,7 +3,9 @@
 //! A flag is 0 or 1. A chunk is its two numbers, start and end. An optional id is `flag peer counter`, with zeros where there is none;
 //! a status `future delete_times`; an optional one `flag future delete_times`.
 //! A span is `peer counter lamport`, real id, status, diff_status, origin left, origin right, chunk: 19 numbers.
-use super::fugue_span::{DiffStatus, FugueSpan, RichtextChunk, RichtextChunkKind, RichtextChunkValue, Status};
+use super::fugue_span::{
+    DiffStatus, FugueSpan, RichtextChunk, RichtextChunkKind, RichtextChunkValue, Status,
+};
 use super::AnchorType;
 use generic_btree::rle::{CanRemove, HasLength, Mergeable, Sliceable};
 use loro_common::{CompactId, HasId, IdFull};
@@ -24,7 +26,9 @@ static PLACE: Mutex<String> = Mutex::new(String::new());
 
 /// The hook: panics are counted and not printed.
 pub fn note_place(panic: &PanicHookInfo) {
-    let place = panic.location().map_or(String::new(), |l| format!("{}:{}", l.file(), l.line()));
+    let place = panic
+        .location()
+        .map_or(String::new(), |l| format!("{}:{}", l.file(), l.line()));
     let parts: Vec<_> = place.split('/').collect();
     *PLACE.lock().expect("one thread") = parts[parts.len().saturating_sub(3)..].join("/");
 }
@@ -45,8 +49,14 @@ fn anchor(t: AnchorType) -> i128 {
 fn numbers(c: &RichtextChunk) -> (u32, u32) {
     let (start, end) = match c.value() {
         RichtextChunkValue::Text(r) => (r.start, r.end),
-        RichtextChunkValue::StyleAnchor { id, anchor_type: AnchorType::Start } => (RichtextChunk::START_STYLE_ANCHOR, id),
-        RichtextChunkValue::StyleAnchor { id, anchor_type: AnchorType::End } => (RichtextChunk::END_STYLE_ANCHOR, id),
+        RichtextChunkValue::StyleAnchor {
+            id,
+            anchor_type: AnchorType::Start,
+        } => (RichtextChunk::START_STYLE_ANCHOR, id),
+        RichtextChunkValue::StyleAnchor {
+            id,
+            anchor_type: AnchorType::End,
+        } => (RichtextChunk::END_STYLE_ANCHOR, id),
         RichtextChunkValue::Unknown(n) => (RichtextChunk::UNKNOWN, n),
         RichtextChunkValue::MoveAnchor => (RichtextChunk::MOVE_ANCHOR, RichtextChunk::MOVE_ANCHOR),
     };
@@ -90,7 +100,12 @@ fn span(s: &FugueSpan) -> String {
 impl<W: Write> List<W> {
     pub fn new(mut out: W, lines: u64) -> Self {
         writeln!(out, "# The answers of fugue_span.rs. A line: number and name of the call, arguments = answer.").expect("written");
-        List { out, left: lines, written: BTreeMap::new(), panicked: BTreeMap::new() }
+        List {
+            out,
+            left: lines,
+            written: BTreeMap::new(),
+            panicked: BTreeMap::new(),
+        }
     }
 
     pub fn is_full(&self) -> bool {
@@ -98,7 +113,13 @@ impl<W: Write> List<W> {
     }
 
     /// Makes the call and writes its line; a call that panics is counted and left out.
-    fn call(&mut self, number: u32, name: &'static str, arguments: String, answer: impl FnOnce() -> String) {
+    fn call(
+        &mut self,
+        number: u32,
+        name: &'static str,
+        arguments: String,
+        answer: impl FnOnce() -> String,
+    ) {
         if self.is_full() {
             return;
         }
@@ -127,19 +148,30 @@ impl<W: Write> List<W> {
     // Chunks.
 
     pub(super) fn new_text(&mut self, start: u32, end: u32) {
-        self.call(1, "new_text", words(&[start.into(), end.into()]), || chunk(&RichtextChunk::new_text(start..end)));
+        self.call(1, "new_text", words(&[start.into(), end.into()]), || {
+            chunk(&RichtextChunk::new_text(start..end))
+        });
     }
 
     pub(super) fn new_style_anchor(&mut self, idx: u32, t: AnchorType) {
-        self.call(2, "new_style_anchor", words(&[idx.into(), anchor(t)]), || chunk(&RichtextChunk::new_style_anchor(idx, t)));
+        self.call(
+            2,
+            "new_style_anchor",
+            words(&[idx.into(), anchor(t)]),
+            || chunk(&RichtextChunk::new_style_anchor(idx, t)),
+        );
     }
 
     pub(super) fn new_unknown(&mut self, len: u32) {
-        self.call(3, "new_unknown", words(&[len.into()]), || chunk(&RichtextChunk::new_unknown(len)));
+        self.call(3, "new_unknown", words(&[len.into()]), || {
+            chunk(&RichtextChunk::new_unknown(len))
+        });
     }
 
     pub(super) fn new_move(&mut self) {
-        self.call(4, "new_move", String::new(), || chunk(&RichtextChunk::new_move()));
+        self.call(4, "new_move", String::new(), || {
+            chunk(&RichtextChunk::new_move())
+        });
     }
 
     pub(super) fn kind(&mut self, c: RichtextChunk) {
@@ -161,7 +193,9 @@ impl<W: Write> List<W> {
         self.call(7, "value", chunk(&c), || {
             words(&match c.value() {
                 RichtextChunkValue::Text(r) => [0, r.start.into(), r.end.into()],
-                RichtextChunkValue::StyleAnchor { id, anchor_type } => [1, id.into(), anchor(anchor_type)],
+                RichtextChunkValue::StyleAnchor { id, anchor_type } => {
+                    [1, id.into(), anchor(anchor_type)]
+                }
                 RichtextChunkValue::Unknown(n) => [2, n.into(), 0],
                 RichtextChunkValue::MoveAnchor => [3, 0, 0],
             })
@@ -169,7 +203,9 @@ impl<W: Write> List<W> {
     }
 
     pub(super) fn chunk_can_merge(&mut self, a: RichtextChunk, b: RichtextChunk) {
-        self.call(8, "chunk_can_merge", chunk(&a) + &chunk(&b), || words(&[a.can_merge(&b).into()]));
+        self.call(8, "chunk_can_merge", chunk(&a) + &chunk(&b), || {
+            words(&[a.can_merge(&b).into()])
+        });
     }
 
     pub(super) fn chunk_merge_right(&mut self, a: RichtextChunk, b: RichtextChunk) {
@@ -189,17 +225,26 @@ impl<W: Write> List<W> {
     }
 
     pub(super) fn chunk_slice(&mut self, c: RichtextChunk, from: u32, to: u32) {
-        self.call(11, "chunk_slice", chunk(&c) + &words(&[from.into(), to.into()]), || chunk(&c._slice(from as usize..to as usize)));
+        self.call(
+            11,
+            "chunk_slice",
+            chunk(&c) + &words(&[from.into(), to.into()]),
+            || chunk(&c._slice(from as usize..to as usize)),
+        );
     }
 
     // Statuses.
 
     pub(super) fn status_is_activated(&mut self, s: Status) {
-        self.call(12, "status_is_activated", status(s), || words(&[s.is_activated().into()]));
+        self.call(12, "status_is_activated", status(s), || {
+            words(&[s.is_activated().into()])
+        });
     }
 
     pub(super) fn status_same(&mut self, a: Status, b: Status) {
-        self.call(13, "status_same", status(a) + &status(b), || words(&[(a == b).into()]));
+        self.call(13, "status_same", status(a) + &status(b), || {
+            words(&[(a == b).into()])
+        });
     }
 
     // Spans.
@@ -221,11 +266,18 @@ impl<W: Write> List<W> {
     }
 
     pub(super) fn slice(&mut self, s: FugueSpan, from: u32, to: u32) {
-        self.call(17, "slice", span(&s) + &words(&[from.into(), to.into()]), || span(&s._slice(from as usize..to as usize)));
+        self.call(
+            17,
+            "slice",
+            span(&s) + &words(&[from.into(), to.into()]),
+            || span(&s._slice(from as usize..to as usize)),
+        );
     }
 
     pub(super) fn can_merge(&mut self, a: FugueSpan, b: FugueSpan) {
-        self.call(18, "can_merge", span(&a) + &span(&b), || words(&[a.can_merge(&b).into()]));
+        self.call(18, "can_merge", span(&a) + &span(&b), || {
+            words(&[a.can_merge(&b).into()])
+        });
     }
 
     pub(super) fn merge_right(&mut self, a: FugueSpan, b: FugueSpan) {
@@ -255,11 +307,15 @@ impl<W: Write> List<W> {
     }
 
     pub(super) fn is_activated(&mut self, s: FugueSpan) {
-        self.call(22, "is_activated", span(&s), || words(&[s.is_activated().into()]));
+        self.call(22, "is_activated", span(&s), || {
+            words(&[s.is_activated().into()])
+        });
     }
 
     pub(super) fn is_activated_in_diff(&mut self, s: FugueSpan) {
-        self.call(23, "is_activated_in_diff", span(&s), || words(&[s.is_activated_in_diff().into()]));
+        self.call(23, "is_activated_in_diff", span(&s), || {
+            words(&[s.is_activated_in_diff().into()])
+        });
     }
 
     pub(super) fn real_id(&mut self, s: FugueSpan) {
@@ -270,11 +326,15 @@ impl<W: Write> List<W> {
     }
 
     pub(super) fn activated_len(&mut self, s: FugueSpan) {
-        self.call(25, "activated_len", span(&s), || words(&[s.activated_len() as i128]));
+        self.call(25, "activated_len", span(&s), || {
+            words(&[s.activated_len() as i128])
+        });
     }
 
     pub(super) fn can_remove(&mut self, s: FugueSpan) {
-        self.call(26, "can_remove", span(&s), || words(&[s.can_remove().into()]));
+        self.call(26, "can_remove", span(&s), || {
+            words(&[s.can_remove().into()])
+        });
     }
 
     pub(super) fn id_start(&mut self, s: FugueSpan) {
@@ -285,6 +345,8 @@ impl<W: Write> List<W> {
     }
 
     pub(super) fn status_default(&mut self) {
-        self.call(28, "status_default", String::new(), || status(Status::default()));
+        self.call(28, "status_default", String::new(), || {
+            status(Status::default())
+        });
     }
 }

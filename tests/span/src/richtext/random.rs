@@ -58,7 +58,10 @@ impl Random {
     fn chunk(&mut self, longest: u32) -> RichtextChunk {
         match self.below(8) {
             0 => RichtextChunk::new_move(),
-            1 => RichtextChunk::new_style_anchor(self.within(0, u32::MAX.into()) as u32, self.anchor_type()),
+            1 => RichtextChunk::new_style_anchor(
+                self.within(0, u32::MAX.into()) as u32,
+                self.anchor_type(),
+            ),
             2..=4 => RichtextChunk::new_unknown(self.within(1, longest.into()) as u32),
             _ => {
                 let (start, end) = self.text(longest);
@@ -79,13 +82,27 @@ impl Random {
         }
         let (start, middle) = self.text(TEXT_END - 1);
         let end = self.within(0, TEXT_END.into()) as u32;
-        let from = if self.one_in(4) { self.within(0, (TEXT_END - 1).into()) as u32 } else { middle.min(TEXT_END - 1) };
-        (RichtextChunk::new_text(start..middle), RichtextChunk::new_text(from..end.max(from + 1)))
+        let from = if self.one_in(4) {
+            self.within(0, (TEXT_END - 1).into()) as u32
+        } else {
+            middle.min(TEXT_END - 1)
+        };
+        (
+            RichtextChunk::new_text(start..middle),
+            RichtextChunk::new_text(from..end.max(from + 1)),
+        )
     }
 
     fn status(&mut self) -> Status {
-        let delete_times = if self.one_in(2) { 0 } else { self.within(i16::MIN.into(), i16::MAX.into()) as i16 };
-        Status { future: self.one_in(3), delete_times }
+        let delete_times = if self.one_in(2) {
+            0
+        } else {
+            self.within(i16::MIN.into(), i16::MAX.into()) as i16
+        };
+        Status {
+            future: self.one_in(3),
+            delete_times,
+        }
     }
 
     fn peer(&mut self) -> u64 {
@@ -96,12 +113,19 @@ impl Random {
         if self.one_in(3) {
             return None;
         }
-        id(self.peer(), self.within(i32::MIN.into(), i128::from(i32::MAX) - 1) as i32)
+        id(
+            self.peer(),
+            self.within(i32::MIN.into(), i128::from(i32::MAX) - 1) as i32,
+        )
     }
 
     fn full_id(&mut self, len: u32) -> IdFull {
         let counter = self.within(0, (COUNTER_END - len).into()) as i32;
-        IdFull::new(self.peer(), counter, self.within(0, (u32::MAX - len).into()) as u32)
+        IdFull::new(
+            self.peer(),
+            counter,
+            self.within(0, (u32::MAX - len).into()) as u32,
+        )
     }
 
     fn span(&mut self) -> FugueSpan {
@@ -110,11 +134,20 @@ impl Random {
         let mut s = FugueSpan::new(self.full_id(len), content);
         match self.below(3) {
             0 => s.real_id = None,
-            1 => s.real_id = id(self.peer().min(UNKNOWN_PEER_ID - 1), self.within(0, (COUNTER_END - len).into()) as i32),
+            1 => {
+                s.real_id = id(
+                    self.peer().min(UNKNOWN_PEER_ID - 1),
+                    self.within(0, (COUNTER_END - len).into()) as i32,
+                )
+            }
             _ => {}
         }
         s.status = self.status();
-        s.diff_status = if self.one_in(2) { None } else { Some(self.status()) };
+        s.diff_status = if self.one_in(2) {
+            None
+        } else {
+            Some(self.status())
+        };
         s.origin_left = self.origin();
         s.origin_right = self.origin();
         s
