@@ -1,9 +1,11 @@
 // The refusals that this crate gives, by document 01's numbers. Where several apply the lowest is given; 0 is none.
 
-// A chunk that no constructor makes: text start not below its end, or an end past the last one; unknown of length 0; a move anchor that says more.
+// A chunk that no constructor makes: text that is empty, reversed or ends past 4,294,967,292; unknown of length 0; a move anchor that
+// says more.
 pub const CHUNK: u8 = 1;
 
-// An id with a counter below zero or too near i32's end, a lamport too near u32's end, or the unknown peer as real id.
+// A counter below zero, or counter + length past 2,147,483,647, of an own or a real id; lamport + length past 4,294,967,295; the
+// unknown peer in a real id.
 pub const ID: u8 = 2;
 
 // A slice's range that is empty, reversed, or ends past its piece.

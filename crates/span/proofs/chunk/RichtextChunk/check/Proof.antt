@@ -3,9 +3,6 @@ use mathlib.Core.Path.{sym, _∙_}
 use borrow.Author.Needs.{needs}
 use Rattle.span.proofs.chunk.RichtextChunk.check.Statement.{statement}
 use Rattle.span.proofs.chunk.RichtextChunk.check.Tie as tie
-use Rattle.span.proofs.chunk.RichtextChunk.check.Reads as reads
-use Rattle.span.proofs.chunk.RichtextChunk.check.Lts as lts
-use Rattle.span.proofs.chunk.RichtextChunk.is_formed.Reads as is-formed-reads
 
 is-formed-requires : tie.Need-is-formed-requires
 is-formed-requires c κs = search needs

@@ -6,9 +6,6 @@ use mir.Syntax.{w32}
 use borrow.Author.Needs.{needs}
 use Rattle.span.proofs.ids.Id.to_span.Statement.{statement}
 use Rattle.span.proofs.ids.Id.to_span.Tie as tie
-use Rattle.span.proofs.ids.Id.to_span.Reads as reads
-use Rattle.span.proofs.ids.Id.to_span.Lts as lts
-use Rattle.span.proofs.ids.Id.inc.Reads as inc-reads
 
 inc-requires : tie.Need-inc-requires
 inc-requires c κs = search needs

@@ -4,9 +4,6 @@ use mathlib.Core.Path.{ap}
 use borrow.Author.Needs.{needs}
 use Rattle.span.proofs.span.FugueSpan.can_remove.Statement.{statement}
 use Rattle.span.proofs.span.FugueSpan.can_remove.Tie as tie
-use Rattle.span.proofs.span.FugueSpan.can_remove.Reads as reads
-use Rattle.span.proofs.span.FugueSpan.can_remove.Lts as lts
-use Rattle.span.proofs.chunk.RichtextChunk.len.Reads as len-reads
 
 len-requires : tie.Need-len-requires
 len-requires c κs = search needs

@@ -1,4 +1,3 @@
-use Rattle.span.specs.Ids.{idSpan}
 use Rattle.span.specs.declared.ids.IdSpanAnswer.the-variants.{Done, Refused}
 use Rattle.span.proofs.AnswerLaws.{is-done, is-refused}
 use Rattle.span.proofs.SpanLaws.{span-ok}
@@ -6,11 +5,6 @@ use mathlib.Core.Path.{sym, _∙_}
 use borrow.Author.Needs.{needs}
 use Rattle.span.proofs.span.FugueSpan.id_span.Statement.{statement}
 use Rattle.span.proofs.span.FugueSpan.id_span.Tie as tie
-use Rattle.span.proofs.span.FugueSpan.id_span.Reads as reads
-use Rattle.span.proofs.span.FugueSpan.id_span.Lts as lts
-use Rattle.span.proofs.chunk.RichtextChunk.len.Reads as len-reads
-use Rattle.span.proofs.ids.Id.to_span.Reads as to-span-reads
-use Rattle.span.proofs.span.FugueSpan.check.Reads as check-reads
 
 check-requires : tie.Need-check-requires
 check-requires c κs = search needs
