@@ -117,7 +117,7 @@ module _ {E : Type 0} (clk : Clock E) where
   doneOf done [] = done
   doneOf done (e ∷ es) = doneOf (e ∷ done) es
 
-  done-in : (es done : List E) (e : E) → MemE e done → MemE e (doneOf done es)
+  pub done-in : (es done : List E) (e : E) → MemE e done → MemE e (doneOf done es)
   done-in [] done e m = m
   done-in (f ∷ es) done e m = done-in es (f ∷ done) e (List·Memᴰ·tail m)
 

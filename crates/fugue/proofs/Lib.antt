@@ -14,3 +14,4 @@ pub mod Alike
 pub mod NewKeys
 pub mod Splices
 pub mod Clocks
+pub mod Counting

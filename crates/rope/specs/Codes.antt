@@ -3,20 +3,20 @@ use Prim.Native.Nat.{ℕ, zero, suc, _+_}
 use mathlib.Core.Bool.{Bool, true, false, not, _&&_, _||_, cond}
 use mathlib.Core.List.{List, [], _∷_}
 use lib.Dec.{leb, eqb}
-use lib.IntN.{ℤ, pos, _+ℤ_, _-ℤ_, natAbs}
+use lib.IntN.{ℤ, pos, _+ℤ_, _-ℤ_}
 use lib.ListN.{length}
 use lib.Signed.{leZ}
 use Rattle.span.specs.declared.ids.Id.{Id}
 use Rattle.span.specs.declared.ids.OptId.the-variants.{At}
 use Rattle.span.specs.declared.span.FugueSpan.{FugueSpan}
 use Rattle.span.specs.Chunk.{formed}
-use Rattle.span.specs.Ids.{UNKNOWN-PEER, id, incId, roomOpt}
-use Rattle.span.specs.Status.{inI16}
+use Rattle.span.specs.Ids.{UNKNOWN-PEER, incId, roomOpt}
+use Rattle.span.specs.Status.{eqZ, inI16}
 use Rattle.span.specs.Span.{lenSpan, idsOk}
 use Rattle.span.specs.Units.{expand, join}
 use Rattle.rope.specs.Place.{memId, shown, insertUnits}
 use Rattle.rope.specs.Limits.{UNITS, fits}
-use Rattle.rope.specs.Lists.{every, over}
+use Rattle.rope.specs.Lists.{every, keepIf, over}
 use Rattle.rope.specs.Change.{SetFuture, deleteUnits, pieces, baseOf, inRange, updateUnits, clearUnits}
 use Rattle.rope.specs.Delta.{Entry, entries, insertable}
 use Rattle.rope.specs.Query.{placeholder}
@@ -30,14 +30,14 @@ unless ok number rest = cond ok rest number
 abbrev pub kept : {A : Type 0} → ℕ → A → A → A
 kept code new old = cond (eqb code 0) new old
 
--- some of the n ids from i on are in the list; all of them are
+-- some of the n ids from i on are in the list
 unfoldable pub holdsSome : ℕ → Id → List FugueSpan → Bool
 holdsSome zero i l = false
 holdsSome (suc n) i l = memId (At i) l || holdsSome n (incId i 1) l
 
-unfoldable pub holdsAll : ℕ → Id → List FugueSpan → Bool
-holdsAll zero i l = true
-holdsAll (suc n) i l = memId (At i) l && holdsAll n (incId i 1) l
+-- all ids a..b of a peer are in the list: as many units as ids, since no id is there twice
+unfoldable pub holdsAll : ℕ → ℤ → ℤ → List FugueSpan → Bool
+holdsAll p a b l = eqZ (pos (length (keepIf (inRange p a b) l))) (b -ℤ a)
 
 -- ---------------------------------------------------------------- opening
 
@@ -95,7 +95,7 @@ unfoldable pub updateCode : ℕ → List FugueSpan → ℕ → ℤ → ℤ → S
 updateCode room l p a b f k diff =
     unless (wellFormed l) 15
     (cond (leZ b a) 0
-    (unless (holdsAll (natAbs (b -ℤ a)) (id p a) (expand l)) 6
+    (unless (holdsAll p a b (expand l)) 6
     (unless (fits room (join (updateUnits p a b f k diff (expand l)))) 10
     (unless (countsFit p a b k diff (expand l)) 11 0))))
 

@@ -1,0 +1,14 @@
+pub mod Edit
+pub mod Version
+pub mod Checkout
+pub mod Arrive
+pub mod Tree
+pub mod Deltas
+pub mod Apply
+pub mod Valid
+pub mod Codes
+pub mod Open
+pub mod Script
+pub mod Rows
+pub mod Demand
+pub mod Refusals
