@@ -37,29 +37,42 @@ module _ {A : Type 0} where
   remove t a (b ∷ B) ta dB m = go (List·Memᴰ·cases-cons m) (remove t a B ta (dB .1))
     where
       go : (a ≡ b) ⊎ List·Memᴰ a B → (List·Memᴰ a B → Removed t a B) → Removed t a (b ∷ B)
-      go (inl e) ih = record { left = B; number = ap (λ (z : Bool). cond z (suc (countIf t B)) (countIf t B)) (ap t (sym e) ∙ ta); distinct = dB .1;
-        down = λ (x : A) (k : List·Memᴰ x B). List·Memᴰ·tail k; up = λ (x : A) (k : List·Memᴰ x (b ∷ B)) (n : x ≡ a → ⊥). split x n (List·Memᴰ·cases-cons k);
-        gone = λ (x : A) (k : List·Memᴰ x B) (d : x ≡ a). dB .0 x k (d ∙ e) }
+      go (inl e) ih = record {
+        left = B;
+        number = ap (λ (z : Bool). cond z (suc (countIf t B)) (countIf t B)) (ap t (sym e) ∙ ta);
+        distinct = dB .1;
+        down = λ (x : A) (k : List·Memᴰ x B). List·Memᴰ·tail k;
+        up = λ (x : A) (k : List·Memᴰ x (b ∷ B)) (n : x ≡ a → ⊥). split x n (List·Memᴰ·cases-cons k);
+        gone = λ (x : A) (k : List·Memᴰ x B) (d : x ≡ a). dB .0 x k (d ∙ e);
+      }
         where
           split : (x : A) → (x ≡ a → ⊥) → (x ≡ b) ⊎ List·Memᴰ x B → List·Memᴰ x B
           split x n (inl d) = absurd (n (d ∙ sym e))
           split x n (inr k) = k
-      go (inr k) ih = record { left = b ∷ s .left; number = num (t b); distinct = (λ (x : A) (j : List·Memᴰ x (s .left)). dB .0 x (s .down x j), s .distinct);
+      go (inr k) ih = record {
+        left = b ∷ s .left;
+        number = num (t b);
+        distinct = (λ (x : A) (j : List·Memᴰ x (s .left)). dB .0 x (s .down x j), s .distinct);
         down = λ (x : A) (j : List·Memᴰ x (b ∷ s .left)). dn x (List·Memᴰ·cases-cons j);
         up = λ (x : A) (j : List·Memᴰ x (b ∷ B)) (n : x ≡ a → ⊥). upw x n (List·Memᴰ·cases-cons j);
-        gone = λ (x : A) (j : List·Memᴰ x (b ∷ s .left)). no x (List·Memᴰ·cases-cons j) }
+        gone = λ (x : A) (j : List·Memᴰ x (b ∷ s .left)). no x (List·Memᴰ·cases-cons j);
+      }
         where
           s : Removed t a B
           s = ih k
+
           num : (z : Bool) → cond z (suc (countIf t B)) (countIf t B) ≡ suc (cond z (suc (countIf t (s .left))) (countIf t (s .left)))
           num true = ap suc (s .number)
           num false = s .number
+
           dn : (x : A) → (x ≡ b) ⊎ List·Memᴰ x (s .left) → List·Memᴰ x (b ∷ B)
           dn x (inl d) = List·Memᴰ·head d
           dn x (inr j) = List·Memᴰ·tail (s .down x j)
+
           upw : (x : A) → (x ≡ a → ⊥) → (x ≡ b) ⊎ List·Memᴰ x B → List·Memᴰ x (b ∷ s .left)
           upw x n (inl d) = List·Memᴰ·head d
           upw x n (inr j) = List·Memᴰ·tail (s .up x j n)
+
           no : (x : A) → (x ≡ b) ⊎ List·Memᴰ x (s .left) → x ≡ a → ⊥
           no x (inl d) e = dB .0 a k (sym e ∙ d)
           no x (inr j) e = s .gone x j e
@@ -80,14 +93,16 @@ module _ {A : Type 0} where
     where
       Hyp : Type 0
       Hyp = (Y : List A) → NoTwice X → NoTwice Y → ((x : A) → List·Memᴰ x X → t x ≡ true → List·Memᴰ x Y) → ((x : A) → List·Memᴰ x Y → t x ≡ true → List·Memᴰ x X) → countIf t X ≡ countIf t Y
+
       pick : (x : A) → (x ≡ a → ⊥) → (x ≡ a) ⊎ List·Memᴰ x X → List·Memᴰ x X
       pick x n (inl e) = absurd (n e)
       pick x n (inr m) = m
+
       go : (z : Bool) → t a ≡ z → Hyp → cond z (suc (countIf t X)) (countIf t X) ≡ countIf t Y
       go true e ih =
-        let s : Removed t a Y = remove t a Y e dY (f a (List·Memᴰ·head refl) e) in
-        ap suc (ih (s .left) (dX .1) (s .distinct)
+          let s : Removed t a Y = remove t a Y e dY (f a (List·Memᴰ·head refl) e) in
+          ap suc (ih (s .left) (dX .1) (s .distinct)
           (λ (x : A) (m : List·Memᴰ x X) (k : t x ≡ true). s .up x (f x (List·Memᴰ·tail m) k) (dX .0 x m))
           (λ (x : A) (m : List·Memᴰ x (s .left)) (k : t x ≡ true). pick x (s .gone x m) (List·Memᴰ·cases-cons (g x (s .down x m) k)))) ∙ sym (s .number)
       go false e ih = ih Y (dX .1) dY (λ (x : A) (m : List·Memᴰ x X). f x (List·Memᴰ·tail m))
-        (λ (x : A) (m : List·Memᴰ x Y) (k : t x ≡ true). pick x (λ (d : x ≡ a). true≢false (sym k ∙ (ap t d ∙ e))) (List·Memᴰ·cases-cons (g x m k)))
+          (λ (x : A) (m : List·Memᴰ x Y) (k : t x ≡ true). pick x (λ (d : x ≡ a). true≢false (sym k ∙ (ap t d ∙ e))) (List·Memᴰ·cases-cons (g x m k)))

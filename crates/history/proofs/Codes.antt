@@ -1,29 +1,28 @@
 -- An edit of a well formed set that arrives is refused for nothing that the edits held say: 1, 2, 4, 5, 6, 7.
-use Prim.Native.Nat.{ℕ, zero, suc, _+_, _<_, _≤_}
+use Prim.Native.Nat.{ℕ, suc, _+_, _<_, _≤_}
 use mathlib.Core.Path.{_≡_, refl, sym, ap, ap₂, subst, _∙_}
 use mathlib.Core.Logic.{_⊎_, inl, inr}
 use mathlib.Core.Bool.{Bool, true, false, not, _&&_, _||_, cond, true≢false, and-eq-true-iff}
-use mathlib.Core.List.{List, [], _∷_, _++_, map, List·Memᴰ, List·Memᴰ·head, List·Memᴰ·tail, List·Memᴰ·not-nil, List·Memᴰ·cases-cons, Memᴰ·map}
+use mathlib.Core.List.{List, [], _∷_, List·Memᴰ, List·Memᴰ·not-nil, List·Memᴰ·cases-cons}
 use native.Mathlib.Omega.{arith}
-use lib.Dec.{eqb, leb, ltb}
+use lib.Dec.{eqb, leb}
 use lib.IntN.{ℤ, pos, negsuc, _+ℤ_}
 use lib.Signed.{leZ}
-use borrow.Author.Tests.{eq-eqb, le-leb, lt-leb, ltb-true, leb-true}
+use borrow.Author.Tests.{le-leb, lt-leb, ltb-true, leb-true}
 use Rattle.span.specs.declared.ids.OptId.the-variants.{At}
 use Rattle.span.specs.Ids.{UNKNOWN-PEER, roomOpt}
 use Rattle.span.specs.Status.{eqZ}
 use Rattle.span.proofs.StatusLaws.{eqZ-refl}
 use Rattle.rope.specs.Limits.{PEERS}
 use Rattle.rope.specs.Lists.{every, some}
-use Rattle.rope.specs.Codes.{unless}
 use Rattle.fugue.proofs.Tests.{Test, pass, fail, eqb-test}
-use Rattle.fugue.proofs.Clocks.{cnt, Fits, in-range}
-use Rattle.history.specs.Edit.{Count, Version, Act, Insert, Delete, Edit, sizeOf, size, Held, History}
+use Rattle.fugue.proofs.Clocks.{cnt, Fits}
+use Rattle.history.specs.Edit.{Count, Version, Act, Insert, Delete, Edit, sizeOf, size, Held}
 use Rattle.history.specs.Version.{number, countOf, below, heldCount, above, rising, isHeld, named, within, wholeAct, closedFor, closed}
 use Rattle.history.specs.Valid.{actFormed, actIds, hasPeer, peerCount, ownCount, editCode}
 use Rattle.history.specs.Demand.{InSet, firstOf, IdOf, counted, WellFormedSet, peers, sum}
-use Rattle.history.proofs.Context.{count, holds, clock, Known, holds-known, count-known, Natural}
-use Rattle.history.proofs.Run.{MemE, MemH}
+use Rattle.history.proofs.Context.{clock, Known, holds-known, count-known, Natural}
+use Rattle.history.proofs.Run.{MemH}
 use Rattle.history.proofs.Sets.{sound}
 use Rattle.history.proofs.Valid.{every-of, arrived}
 
@@ -38,7 +37,7 @@ every-in {A} t (a ∷ l) e x m = go (and-eq-true-iff (t a) (every t l) .0 e) (Li
     go b (inl d) ih = ap t d ∙ b .0
     go b (inr k) ih = ih (b .1) k
 
-rising-above : (p : ℕ) (v : Version) → above p v ≡ true → rising v ≡ true → (k : Count) → List·Memᴰ k v → p < k .peer
+pub rising-above : (p : ℕ) (v : Version) → above p v ≡ true → rising v ≡ true → (k : Count) → List·Memᴰ k v → p < k .peer
 unfolding above rising
 rising-above p [] a r k m = absurd (List·Memᴰ·not-nil m)
 rising-above p (c ∷ v) a r k m =
@@ -56,6 +55,7 @@ rising-count (c ∷ v) r k m = go (and-eq-true-iff (above (c .peer) v) (rising v
   where
     G : Bool → Type 0
     G b = cond b (number (c .many)) (countOf v (k .peer)) ≡ number (k .many)
+
     go : (above (c .peer) v ≡ true) × (rising v ≡ true) → Test (eqb (c .peer) (k .peer)) (c .peer ≡ k .peer) → (k ≡ c) ⊎ List·Memᴰ k v → (rising v ≡ true → List·Memᴰ k v → countOf v (k .peer) ≡ number (k .many)) → G (eqb (c .peer) (k .peer))
     go b (pass t d) (inl q) ih = subst G (sym t) (ap (λ (z : Count). number (z .many)) (sym q))
     go b (fail t d) (inl q) ih = absurd (d (ap (λ (z : Count). z .peer) (sym q)))
@@ -74,15 +74,16 @@ named-of held v e f = ap₂ _&&_ (b .0) (every-of (λ (k : Count). leZ (pos 1) (
   where
     b : (rising v ≡ true) × (every (λ (k : Count). leZ (pos 1) (k .many)) v ≡ true)
     b = and-eq-true-iff (rising v) (every (λ (k : Count). leZ (pos 1) (k .many)) v) .0 e
+
     one : (k : Count) → List·Memᴰ k v → (leZ (pos 1) (k .many) && leZ (k .many) (pos (heldCount held (k .peer)))) ≡ true
     one k m =
-      let c : leZ (pos 1) (k .many) ≡ true = every-in (λ (k : Count). leZ (pos 1) (k .many)) v (b .1) k m in
-      ap₂ _&&_ c (ap (λ (z : ℤ). leZ z (pos (heldCount held (k .peer)))) (some-count (k .many) c .1) ∙ le-leb (number (k .many)) (heldCount held (k .peer)) (f k m))
+        let c : leZ (pos 1) (k .many) ≡ true = every-in (λ (k : Count). leZ (pos 1) (k .many)) v (b .1) k m in
+        ap₂ _&&_ c (ap (λ (z : ℤ). leZ z (pos (heldCount held (k .peer)))) (some-count (k .many) c .1) ∙ le-leb (number (k .many)) (heldCount held (k .peer)) (f k m))
 
 pub pair-some : (v : Version) → (rising v && counted v) ≡ true → (k : Count) → List·Memᴰ k v → (1 ≤ number (k .many)) × (countOf v (k .peer) ≡ number (k .many))
 pair-some v e k m =
-  let b = and-eq-true-iff (rising v) (every (λ (k : Count). leZ (pos 1) (k .many)) v) .0 e in
-  (some-count (k .many) (every-in (λ (k : Count). leZ (pos 1) (k .many)) v (b .1) k m) .0, rising-count v (b .0) k m)
+    let b = and-eq-true-iff (rising v) (every (λ (k : Count). leZ (pos 1) (k .many)) v) .0 e in
+    (some-count (k .many) (every-in (λ (k : Count). leZ (pos 1) (k .many)) v (b .1) k m) .0, rising-count v (b .0) k m)
 
 -- ---- what the held edits add up to
 
@@ -93,8 +94,9 @@ held-sum (x ∷ l) p = go (eqb (x .edit .id .peer) p) (held-sum l p)
   where
     S : ℕ
     S = sum (λ (e : Edit). cond (eqb (e .id .peer) p) (size e) 0) (arrived l)
+
     go : (b : Bool) → heldCount l p ≡ sum (λ (e : Edit). cond (eqb (e .id .peer) p) (size e) 0) (arrived l)
-      → cond b (size (x .edit) + heldCount l p) (heldCount l p) ≡ cond b (size (x .edit)) 0 + sum (λ (e : Edit). cond (eqb (e .id .peer) p) (size e) 0) (arrived l)
+        → cond b (size (x .edit) + heldCount l p) (heldCount l p) ≡ cond b (size (x .edit)) 0 + sum (λ (e : Edit). cond (eqb (e .id .peer) p) (size e) 0) (arrived l)
     go true ih = ap (λ (k : ℕ). size (x .edit) + k) ih
     go false ih = omega arith
 
@@ -125,16 +127,15 @@ six a b c d f g ha hb hc hd hf hg = rw (ha, hb, hc, hd, hf, hg)
 -- a context names no placeholder
 pub pair-known : (n : ℕ) (S : List Edit) (wf : WellFormedSet S) (e : Edit) → InSet e S → (k : Count) → List·Memᴰ k (e .context) → ¬ (k .peer ≡ UNKNOWN-PEER)
 pair-known n S wf e me k m d =
-  let b : (1 ≤ number (k .many)) × (countOf (e .context) (k .peer) ≡ number (k .many)) = pair-some (e .context) (wf .pairs e me) k m in
-  let b1 : 1 ≤ number (k .many) = b .0 in
-  let b2 : countOf (e .context) (k .peer) ≡ number (k .many) = b .1 in
-  let t : IdOf S (k .peer) 0 = wf .within e me (k .peer) 0 (omega arith) in
-  sound n S wf (t .edit) (t .isIn) .0 (t .uses .peer ∙ d)
+    let b : (1 ≤ number (k .many)) × (countOf (e .context) (k .peer) ≡ number (k .many)) = pair-some (e .context) (wf .pairs e me) k m in
+    let b1 : 1 ≤ number (k .many) = b .0 in
+    let b2 : countOf (e .context) (k .peer) ≡ number (k .many) = b .1 in
+    let t : IdOf S (k .peer) 0 = wf .within e me (k .peer) 0 (omega arith) in
+    sound n S wf (t .edit) (t .isIn) .0 (t .uses .peer ∙ d)
 
 module _ (n : ℕ) (S : List Edit) (wf : WellFormedSet S) (held : List Held) (done : List Edit)
-  (counts : (p : ℕ) → ¬ (p ≡ UNKNOWN-PEER) → heldCount held p ≡ cnt (clock n) done p) (ofS : (x : Held) → MemH x held → InSet (x .edit) S)
-  (e : Edit) (me : InSet e S) (fits : Fits (clock n) done e) where
-
+    (counts : (p : ℕ) → ¬ (p ≡ UNKNOWN-PEER) → heldCount held p ≡ cnt (clock n) done p) (ofS : (x : Held) → MemH x held → InSet (x .edit) S)
+    (e : Edit) (me : InSet e S) (fits : Fits (clock n) done e) where
   -- a context's count is held
   ctx-held : (p : ℕ) → ¬ (p ≡ UNKNOWN-PEER) → countOf (e .context) p ≤ heldCount held p
   ctx-held p k = omega (arith, fits .held p, holds-known n e p (sound n S wf e me .0), count-known n (e .context) p k, counts p k)
@@ -151,29 +152,33 @@ module _ (n : ℕ) (S : List Edit) (wf : WellFormedSet S) (held : List Held) (do
     where
       kn : Known e
       kn = sound n S wf e me .0
+
       nat : Natural (e .id)
       nat = sound n S wf e me .1
+
       five : eqZ (e .id .counter) (pos (heldCount held (e .id .peer))) ≡ true
       five = ap (λ (z : ℤ). eqZ z (pos (heldCount held (e .id .peer)))) (nat ∙ ap pos (sym (counts (e .id .peer) kn ∙ fits .own))) ∙ eqZ-refl (pos (heldCount held (e .id .peer)))
+
       own-count : eqZ (pos (countOf (e .context) (e .id .peer))) (e .id .counter) ≡ true
       own-count = ap (λ (z : ℕ). eqZ (pos z) (e .id .counter)) (let q : countOf (e .context) (e .id .peer) ≡ firstOf e = omega (arith, wf .earlier e me) in q)
-        ∙ (ap (λ (z : ℤ). eqZ z (e .id .counter)) (sym nat) ∙ eqZ-refl (e .id .counter))
+          ∙ (ap (λ (z : ℤ). eqZ z (e .id .counter)) (sym nat) ∙ eqZ-refl (e .id .counter))
 
 -- 7 is not given for a version that has all that is held
 pub closed-whole : (n : ℕ) (S : List Edit) (wf : WellFormedSet S) (held : List Held) (v : Version) → ((x : Held) → MemH x held → InSet (x .edit) S)
-  → ((x : Held) → MemH x held → (k : Count) → List·Memᴰ k (x .edit .context) → number (k .many) ≤ countOf v (k .peer))
-  → ((x : Held) → MemH x held → firstOf (x .edit) + size (x .edit) ≤ countOf v (x .edit .id .peer)) → closed held v ≡ true
+    → ((x : Held) → MemH x held → (k : Count) → List·Memᴰ k (x .edit .context) → number (k .many) ≤ countOf v (k .peer))
+    → ((x : Held) → MemH x held → firstOf (x .edit) + size (x .edit) ≤ countOf v (x .edit .id .peer)) → closed held v ≡ true
 unfolding closed closedFor within
 closed-whole n S wf held v ofS ctx whole = every-of (λ (h : Held). not (below v (h .edit .id)) || (within (h .edit .context) v && wholeAct (h .edit .act) v (h .edit .id))) held
     (λ (x : Held) (m : MemH x held). right (not (below v (x .edit .id))) (within (x .edit .context) v && wholeAct (x .edit .act) v (x .edit .id))
-      (ap₂ _&&_ (every-of (λ (k : Count). leb (number (k .many)) (countOf v (k .peer))) (x .edit .context) (λ (k : Count) (j : List·Memᴰ k (x .edit .context)). le-leb (number (k .many)) (countOf v (k .peer)) (ctx x m k j)))
-        (act (x .edit .act) (x .edit) refl (sound n S wf (x .edit) (ofS x m) .1) (whole x m))))
+    (ap₂ _&&_ (every-of (λ (k : Count). leb (number (k .many)) (countOf v (k .peer))) (x .edit .context) (λ (k : Count) (j : List·Memᴰ k (x .edit .context)). le-leb (number (k .many)) (countOf v (k .peer)) (ctx x m k j)))
+    (act (x .edit .act) (x .edit) refl (sound n S wf (x .edit) (ofS x m) .1) (whole x m))))
   where
     right : (a b : Bool) → b ≡ true → a || b ≡ true
     right true b h = refl
     right false b h = h
+
     act : (a : Act) (e : Edit) → e .act ≡ a → Natural (e .id) → firstOf e + size e ≤ countOf v (e .id .peer) → wholeAct a v (e .id) ≡ true
     act (Insert lam c) e d nat h = refl
     act (Delete m reversed target) e d nat h =
-      let q : size e ≡ m = ap sizeOf d ∙ (unfold sizeOf in refl) in
-      ap (λ (z : ℤ). leZ (z +ℤ pos m) (pos (countOf v (e .id .peer)))) nat ∙ le-leb (firstOf e + m) (countOf v (e .id .peer)) (omega arith)
+        let q : size e ≡ m = ap sizeOf d ∙ (unfold sizeOf in refl) in
+        ap (λ (z : ℤ). leZ (z +ℤ pos m) (pos (countOf v (e .id .peer)))) nat ∙ le-leb (firstOf e + m) (countOf v (e .id .peer)) (omega arith)

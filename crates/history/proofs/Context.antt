@@ -3,25 +3,23 @@ use Prim.Native.Nat.{ℕ, zero, suc, _+_, _<_, _≤_}
 use mathlib.Core.Path.{_≡_, refl, sym, ap, ap₂, subst, _∙_}
 use mathlib.Core.Logic.{_⊎_, inl, inr}
 use mathlib.Core.Bool.{Bool, true, false, not, _||_, cond, true≢false}
-use mathlib.Core.List.{List, [], _∷_, _++_, map, List·Memᴰ, List·Memᴰ·head, List·Memᴰ·not-nil, List·Memᴰ·cases-cons}
+use mathlib.Core.List.{List, [], _∷_}
 use native.Mathlib.Omega.{arith}
 use native.Mathlib.Decide.{decLt}
 use lib.Dec.{eqb, ltb}
-use lib.IntN.{ℤ, pos, negsuc, _+ℤ_}
+use lib.IntN.{ℤ, pos, _+ℤ_}
 use lib.Signed.{ltZ}
 use borrow.Author.Tests.{lt-ltb, le-ltb, ltb-true, ne-eqb}
 use Rattle.span.specs.declared.ids.Id.{Id}
 use Rattle.span.specs.declared.span.FugueSpan.{FugueSpan}
 use Rattle.span.specs.Chunk.{UNKNOWN, chunk, lenOf, shapeOf}
 use Rattle.span.specs.Ids.{UNKNOWN-PEER, id, incId}
-use Rattle.rope.specs.Change.{withState}
 use Rattle.fugue.proofs.Tests.{Test, pass, fail, eqb-test}
-use Rattle.fugue.proofs.Clocks.{Clock, cnt, Fits, Causal}
-use Rattle.history.specs.Edit.{Version, Act, Insert, Delete, Edit, sizeOf, size, Held, History}
+use Rattle.fugue.proofs.Clocks.{Clock}
+use Rattle.history.specs.Edit.{Version, Insert, Edit, size, Held, History}
 use Rattle.history.specs.Version.{number, countOf, below, inVersion}
 use Rattle.history.specs.Checkout.{statusAt}
-use Rattle.history.specs.Checkout as Co
-use Rattle.history.proofs.Plain.{view, sees}
+use Rattle.history.proofs.Plain.{sees}
 
 -- a peer's count in a version; the placeholder's n units are in every one
 unfoldable pub count : ℕ → Version → ℕ → ℕ
@@ -78,8 +76,8 @@ Natural i = i .counter ≡ pos (number (i .counter))
 pub natural-inc : (i : Id) (k : ℕ) → Natural i → (Natural (incId i k)) × (number (incId i k .counter) ≡ number (i .counter) + k)
 unfolding incId
 natural-inc i k h =
-  let e : i .counter +ℤ pos k ≡ pos (number (i .counter) + k) = ap (λ (z : ℤ). z +ℤ pos k) h in
-  (e ∙ ap (λ (z : ℤ). pos (number z)) (sym e), ap number e)
+    let e : i .counter +ℤ pos k ≡ pos (number (i .counter) + k) = ap (λ (z : ℤ). z +ℤ pos k) h in
+    (e ∙ ap (λ (z : ℤ). pos (number z)) (sym e), ap number e)
 
 in-known : (v : Version) (i : Id) → Natural i → ¬ (i .peer ≡ UNKNOWN-PEER) → inVersion v i ≡ ltb (number (i .counter)) (countOf v (i .peer))
 unfolding inVersion below
@@ -109,8 +107,8 @@ module _ (n : ℕ) (v : Version) (held : List Held) (i : Id) (nat : Natural i) w
       go : Test (eqb (i .peer) UNKNOWN-PEER) (i .peer ≡ UNKNOWN-PEER) → not (inVersion v i) ≡ false
       go (pass b d) = ap not (in-unknown v i d)
       go (fail b d) =
-        let k : number (i .counter) < countOf v (i .peer) = subst (λ (z : ℕ). number (i .counter) < z) (count-known n v (i .peer) d) h in
-        ap not (in-known v i nat d ∙ lt-ltb (number (i .counter)) (countOf v (i .peer)) k)
+          let k : number (i .counter) < countOf v (i .peer) = subst (λ (z : ℕ). number (i .counter) < z) (count-known n v (i .peer) d) h in
+          ap not (in-known v i nat d ∙ lt-ltb (number (i .counter)) (countOf v (i .peer)) k)
 
   pub future-of : ¬ (i .peer ≡ UNKNOWN-PEER) → countOf v (i .peer) ≤ number (i .counter) → statusAt v held i .future ≡ true
   unfolding statusAt

@@ -1,39 +1,36 @@
 -- Arrival orders of one set of edits are accepted alike and converge, and the list is the walk (Theorems 8c, 8d), on units.
-use Prim.Native.Nat.{ℕ, zero, suc, _+_, _<_, _≤_}
-use mathlib.Core.Path.{_≡_, refl, sym, ap, ap₂, subst, _∙_}
+use Prim.Native.Nat.{ℕ, _+_, _<_, _≤_}
+use mathlib.Core.Path.{_≡_, refl, sym, ap, subst, _∙_}
 use mathlib.Core.Logic.{_⊎_, inl, inr}
-use mathlib.Core.Bool.{Bool, true, false, not, cond}
-use mathlib.Core.List.{List, [], _∷_, _++_, map, List·Memᴰ·head, List·Memᴰ·tail, List·Memᴰ·not-nil, List·Memᴰ·cases-cons, Memᴰ·of-map, Memᴰ·cast}
+use mathlib.Core.Bool.{Bool, false, not, cond}
+use mathlib.Core.List.{List, [], _∷_, map, List·Memᴰ·head, List·Memᴰ·tail, List·Memᴰ·cases-cons, Memᴰ·of-map, Memᴰ·cast}
 use lib.ListN.{length, length-map}
 use native.Mathlib.Omega.{arith}
-use Rattle.span.specs.declared.ids.Id.{Id}
 use Rattle.span.specs.declared.ids.OptId.{OptId}
-use Rattle.span.specs.declared.ids.OptId.the-variants.{At}
 use Rattle.span.specs.declared.span.FugueSpan.{FugueSpan}
 use Rattle.span.specs.Span.{newSpan}
 use Rattle.rope.specs.Lists.{keepIf}
-use Rattle.rope.specs.Place.{originLeft, originRight, withOrigins, insertUnits}
+use Rattle.rope.specs.Place.{insertUnits}
 use Rattle.rope.specs.Change.{withState}
 use Rattle.fugue.specs.Tree.{ref, walk, sortId}
 use Rattle.fugue.proofs.Keys.{Key}
 use Rattle.fugue.proofs.ScanPlace.{Mem}
 use Rattle.fugue.proofs.Insert.{Good}
-use Rattle.fugue.proofs.Past.{notFuture, pastOf}
-use Rattle.fugue.proofs.Alike.{Same, alike-map, good-alike}
+use Rattle.fugue.proofs.Past.{pastOf}
+use Rattle.fugue.proofs.Alike.{alike-map, good-alike}
 use Rattle.fugue.proofs.Sorts.{good-walk, splice-walk}
 use Rattle.fugue.proofs.Splices.{insert-splice}
-use Rattle.fugue.proofs.Clocks.{cnt, Fits, Causal, in-range, doneOf, todo-in, in-todo, Order}
-use Rattle.history.specs.Edit.{Version, Act, Insert, Delete, Edit, sizeOf, Held, History}
-use Rattle.history.specs.Version.{number}
-use Rattle.history.specs.Checkout.{statusAt, unitsAt}
+use Rattle.fugue.proofs.Clocks.{cnt, in-range, doneOf, Order}
+use Rattle.history.specs.Edit.{Version, Act, Insert, Delete, Edit, sizeOf, History}
+use Rattle.history.specs.Checkout.{unitsAt}
 use Rattle.history.specs.Checkout as Co
-use Rattle.history.specs.Arrive.{actList, listAfter, hold, arrive, replay}
+use Rattle.history.specs.Arrive.{actList, hold, arrive, replay}
 use Rattle.history.specs.Tree.{hung, treeList, treeArrive, treeReplay}
 use Rattle.history.specs.Codes.{inside}
 use Rattle.history.specs.Demand.{Inside}
-use Rattle.history.proofs.Plain.{view, view-same, at-same, sees}
+use Rattle.history.proofs.Plain.{view, at-same, sees}
 use Rattle.history.proofs.Context.{count, clock, Known, Natural, past-of, before-known, holds-known}
-use Rattle.history.proofs.Run.{MemE, num, first, Made, made-peer, made-num, made-small, Src, Run, bound, unit-natural}
+use Rattle.history.proofs.Run.{MemE, first, Run, bound, unit-natural}
 use Rattle.history.proofs.Stable.{inside-sees}
 use Rattle.history.proofs.Arrive.{Arriving, run-arrive}
 use Rattle.history.proofs.Compare.{versions-same}
@@ -47,8 +44,8 @@ pub run-all : (n : ℕ) (es done : List Edit) (h : History) (key : OptId → Key
 unfolding Arrives replay
 run-all n [] done h key r a = (key, r)
 run-all n (e ∷ es) done h key r a =
-  let t : (key2 : OptId → Key) × Run n (e ∷ done) (arrive h e) key2 = run-arrive n done h key r e (a .0) in
-  run-all n es (e ∷ done) (arrive h e) (t .0) (t .1) (a .1)
+    let t : (key2 : OptId → Key) × Run n (e ∷ done) (arrive h e) key2 = run-arrive n done h key r e (a .0) in
+    run-all n es (e ∷ done) (arrive h e) (t .0) (t .1) (a .1)
 
 -- ---- acceptance
 
@@ -62,16 +59,24 @@ module _ (n : ℕ) (E : List Edit) (h2 : History) (key2 : OptId → Key) (r2 : R
   unfolding Order Arrives
   accept [] done h key r sub sound o = tt
   accept (e ∷ es) done h key r sub sound o =
-    let t : (k : OptId → Key) × Run n (e ∷ done) (arrive h e) k = run-arrive n done h key r e acc in
-    (acc, accept es (e ∷ done) (arrive h e) (t .0) (t .1) (λ (f : Edit) (m : MemE f (e ∷ done)). sub2 f (List·Memᴰ·cases-cons m)) (λ (f : Edit) (m : MemE f es). sound f (List·Memᴰ·tail m)) (o .3))
+      let t : (k : OptId → Key) × Run n (e ∷ done) (arrive h e) k = run-arrive n done h key r e acc in
+      (acc, accept es (e ∷ done) (arrive h e) (t .0) (t .1) (λ (f : Edit) (m : MemE f (e ∷ done)). sub2 f (List·Memᴰ·cases-cons m)) (λ (f : Edit) (m : MemE f es). sound f (List·Memᴰ·tail m)) (o .3))
     where
       kn : Known e
       kn = sound e (List·Memᴰ·head refl) .0
+
       same : sees (e .context) h ≡ sees (e .context) h2
       same = versions-same n done E h h2 key key2 r r2 sub (e .context) (λ (p : ℕ). omega (arith, o .0 .held p, holds-known n e p kn))
+
       acc : Arriving n done h e
-      acc = record { known = kn; natural = sound e (List·Memᴰ·head refl) .1; fits = o .0; some = o .1;
-        inside = inside-sees (e .context) h (e .act) (e .at) ∙ (ap (inside (e .act) (e .at)) (same ∙ sym (before-known e h2 kn)) ∙ r2 .fit e (o .2)) }
+      acc = record {
+        known = kn;
+        natural = sound e (List·Memᴰ·head refl) .1;
+        fits = o .0;
+        some = o .1;
+        inside = inside-sees (e .context) h (e .act) (e .at) ∙ (ap (inside (e .act) (e .at)) (same ∙ sym (before-known e h2 kn)) ∙ r2 .fit e (o .2));
+      }
+
       sub2 : (f : Edit) → (f ≡ e) ⊎ MemE f done → MemE f E
       sub2 f (inl k) = Memᴰ·cast k (o .2)
       sub2 f (inr m) = sub f m
@@ -97,23 +102,22 @@ module _ (n : ℕ) (done : List Edit) (h : History) (key : OptId → Key) (r : R
 
 -- CONVERGENCE. Two histories of one set of edits, at the whole set: the same units in the same order.
 module _ (n : ℕ) (done1 done2 : List Edit) (h1 h2 : History) (key1 key2 : OptId → Key) (r1 : Run n done1 h1 key1) (r2 : Run n done2 h2 key2)
-  (to : (e : Edit) → MemE e done1 → MemE e done2) (from : (e : Edit) → MemE e done2 → MemE e done1) (v : Version) (whole : (p : ℕ) → count n v p ≡ cnt (clock n) done1 p) where
-
+    (to : (e : Edit) → MemE e done1 → MemE e done2) (from : (e : Edit) → MemE e done2 → MemE e done1) (v : Version) (whole : (p : ℕ) → count n v p ≡ cnt (clock n) done1 p) where
   -- the counts are the same
   all2 : (p : ℕ) → cnt (clock n) done2 p ≤ cnt (clock n) done1 p
   all2 p = go (Rattle.fugue.proofs.Tests.ltb-test (cnt (clock n) done1 p) (cnt (clock n) done2 p))
     where
       go : Rattle.fugue.proofs.Tests.Test (lib.Dec.ltb (cnt (clock n) done1 p) (cnt (clock n) done2 p)) (cnt (clock n) done1 p < cnt (clock n) done2 p) → cnt (clock n) done2 p ≤ cnt (clock n) done1 p
       go (Rattle.fugue.proofs.Tests.pass b k) =
-        let c : Rattle.fugue.proofs.Clocks.Covers (clock n) done2 p (cnt (clock n) done1 p) = Rattle.fugue.proofs.Clocks.cover (clock n) done2 (r2 .causal) p (cnt (clock n) done1 p) k in
-        let d : first (c .e) + sizeOf (c .e .act) ≤ cnt (clock n) done1 (c .e .id .peer) = in-range (clock n) done1 (r1 .causal) (c .e) (from (c .e) (c .isIn)) .0 in
-        let q : cnt (clock n) done1 (c .e .id .peer) ≡ cnt (clock n) done1 p = ap (cnt (clock n) done1) (c .peer) in
-        absurd (let z : ⊥ = omega (arith, c .high) in z)
+          let c : Rattle.fugue.proofs.Clocks.Covers (clock n) done2 p (cnt (clock n) done1 p) = Rattle.fugue.proofs.Clocks.cover (clock n) done2 (r2 .causal) p (cnt (clock n) done1 p) k in
+          let d : first (c .e) + sizeOf (c .e .act) ≤ cnt (clock n) done1 (c .e .id .peer) = in-range (clock n) done1 (r1 .causal) (c .e) (from (c .e) (c .isIn)) .0 in
+          let q : cnt (clock n) done1 (c .e .id .peer) ≡ cnt (clock n) done1 p = ap (cnt (clock n) done1) (c .peer) in
+          absurd (let z : ⊥ = omega (arith, c .high) in z)
       go (Rattle.fugue.proofs.Tests.fail b k) = omega arith
 
   pub whole-same : map (view v (h1 .held)) (h1 .list) ≡ map (view v (h2 .held)) (h2 .list)
   whole-same = whole-sees n done1 h1 key1 r1 v (λ (p : ℕ). omega (arith, whole p))
-    ∙ (versions-same n done1 done2 h1 h2 key1 key2 r1 r2 to v (λ (p : ℕ). omega (arith, whole p)) ∙ sym (whole-sees n done2 h2 key2 r2 v (λ (p : ℕ). omega (arith, whole p, all2 p))))
+      ∙ (versions-same n done1 done2 h1 h2 key1 key2 r1 r2 to v (λ (p : ℕ). omega (arith, whole p)) ∙ sym (whole-sees n done2 h2 key2 r2 v (λ (p : ℕ). omega (arith, whole p, all2 p))))
 
 -- ---- the walk
 
@@ -125,6 +129,7 @@ at-is-walk n done h key r v = good-walk key (map co (h .list)) (good-alike key (
   where
     co : FugueSpan → FugueSpan
     co = Co.unitAt v (h .held)
+
     go : (w : FugueSpan) → (u : FugueSpan) × Mem u (h .list) × (co u ≡ w) → length (key (ref w)) ≤ length (map co (h .list))
     go w t = subst (λ (z : FugueSpan). length (key (ref z)) ≤ length (map co (h .list))) (t .2) (omega (arith, r .deep (t .0) (t .1), length-map (h .list) co))
 
@@ -133,7 +138,7 @@ list-is-walk n done h key r = good-walk key (h .list) (r .good) (r .deep)
 
 -- THE SCAN IS THE WALK, edit by edit: what the scan leaves is what hanging the units on the tree and walking it leaves.
 tree-one : (t : Act) (e : Edit) (l : List FugueSpan) (key : OptId → Key) → Good key (actList t e l)
-  → ((w : FugueSpan) → Mem w (actList t e l) → length (key (ref w)) ≤ length (actList t e l)) → treeList t e l ≡ actList t e l
+    → ((w : FugueSpan) → Mem w (actList t e l) → length (key (ref w)) ≤ length (actList t e l)) → treeList t e l ≡ actList t e l
 unfolding treeList actList hung
 tree-one (Insert lam c) e l key g deep = sym (splice-walk key l (hung (e .at) (newSpan (e .id) lam c) l) (insertUnits (e .at) (newSpan (e .id) lam c) l) (insert-splice (e .at) (newSpan (e .id) lam c) l) g deep)
 tree-one (Delete len reversed target) e l key g deep = refl
@@ -146,13 +151,13 @@ pub scan-is-walk : (n : ℕ) (es done : List Edit) (h : History) (key : OptId �
 unfolding Arrives replay treeReplay
 scan-is-walk n [] done h key r a = refl
 scan-is-walk n (e ∷ es) done h key r a =
-  let t : (k : OptId → Key) × Run n (e ∷ done) (arrive h e) k = run-arrive n done h key r e (a .0) in
-  ap (λ (z : History). treeReplay z es) (tree-arrive n done h e (t .0) (t .1)) ∙ scan-is-walk n es (e ∷ done) (arrive h e) (t .0) (t .1) (a .1)
+    let t : (k : OptId → Key) × Run n (e ∷ done) (arrive h e) k = run-arrive n done h key r e (a .0) in
+    ap (λ (z : History). treeReplay z es) (tree-arrive n done h e (t .0) (t .1)) ∙ scan-is-walk n es (e ∷ done) (arrive h e) (t .0) (t .1) (a .1)
 
 pub arrives-of : (n : ℕ) (E es done : List Edit) (h : History) (key : OptId → Key) → Run n done h key → Order (clock n) E done es → ((e : Edit) → MemE e es → Sound e) → Inside h es → Arrives n done h es
 unfolding Order Inside Arrives
 arrives-of n E [] done h key r o sound i = tt
 arrives-of n E (e ∷ es) done h key r o sound i =
-  let acc : Arriving n done h e = record { known = sound e (List·Memᴰ·head refl) .0; natural = sound e (List·Memᴰ·head refl) .1; fits = o .0; some = o .1; inside = i .0 } in
-  let t : (k : OptId → Key) × Run n (e ∷ done) (arrive h e) k = run-arrive n done h key r e acc in
-  (acc, arrives-of n E es (e ∷ done) (arrive h e) (t .0) (t .1) (o .3) (λ (f : Edit) (m : MemE f es). sound f (List·Memᴰ·tail m)) (subst (λ (z : History). Inside z es) (tree-arrive n done h e (t .0) (t .1)) (i .1)))
+    let acc : Arriving n done h e = record { known = sound e (List·Memᴰ·head refl) .0; natural = sound e (List·Memᴰ·head refl) .1; fits = o .0; some = o .1; inside = i .0 } in
+    let t : (k : OptId → Key) × Run n (e ∷ done) (arrive h e) k = run-arrive n done h key r e acc in
+    (acc, arrives-of n E es (e ∷ done) (arrive h e) (t .0) (t .1) (o .3) (λ (f : Edit) (m : MemE f es). sound f (List·Memᴰ·tail m)) (subst (λ (z : History). Inside z es) (tree-arrive n done h e (t .0) (t .1)) (i .1)))

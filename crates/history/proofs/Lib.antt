@@ -15,6 +15,14 @@ pub mod WellUnits
 pub mod Targets
 pub mod Valid
 pub mod Codes
+pub mod Whole
 pub mod Stored
 pub mod Demand
 pub mod Witness
+pub mod Accepts
+pub mod Reals
+pub mod Checkouts
+pub mod Shorter
+pub mod Rooms
+pub mod Reached
+pub mod Histories

@@ -1,21 +1,18 @@
 -- Demand 3 on units (Theorem 9): every arrival order of the set arrives throughout, and at the whole set shows what the tree built from the set alone shows.
-use Prim.Native.Nat.{ℕ, zero, suc, _+_, _<_, _≤_}
-use mathlib.Core.Path.{_≡_, refl, sym, ap, subst, _∙_}
+use Prim.Native.Nat.{ℕ}
+use mathlib.Core.Path.{_≡_, sym, ap, subst, _∙_}
 use mathlib.Core.Logic.{_⊎_, inl, inr}
-use mathlib.Core.List.{List, [], _∷_, _++_, map, List·Memᴰ·not-nil, List·Memᴰ·append-cases, Memᴰ·append-left, Memᴰ·append-right}
-use native.Mathlib.Omega.{arith}
+use mathlib.Core.List.{List, [], _∷_, _++_, map, List·Memᴰ·append-cases}
 use Rattle.span.specs.declared.ids.OptId.{OptId}
-use Rattle.span.specs.declared.span.FugueSpan.{FugueSpan}
 use Rattle.fugue.specs.Tree.{walk, sortId}
 use Rattle.fugue.proofs.Keys.{Key}
 use Rattle.fugue.proofs.Clocks.{cnt, doneOf, done-in, todo-in, in-todo, Order}
-use Rattle.history.specs.Edit.{Version, Edit, size, History}
-use Rattle.history.specs.Version.{countOf}
+use Rattle.history.specs.Edit.{Version, Edit, History}
 use Rattle.history.specs.Checkout.{unitsAt}
 use Rattle.history.specs.Arrive.{start, replay}
-use Rattle.history.specs.Tree.{sortRank, treeReplay, treeOf}
-use Rattle.history.specs.Demand.{InSet, firstOf, WellFormedSet, Inside, ArrivalOrder, noReal}
-use Rattle.history.proofs.Plain.{view, view-at}
+use Rattle.history.specs.Tree.{sortRank, treeOf}
+use Rattle.history.specs.Demand.{InSet, WellFormedSet, Inside, ArrivalOrder, noReal}
+use Rattle.history.proofs.Plain.{view-at}
 use Rattle.history.proofs.Context.{count, clock, base}
 use Rattle.history.proofs.Run.{MemE, Run}
 use Rattle.history.proofs.Start.{run-start}
@@ -32,7 +29,7 @@ module _ (n : ℕ) (S : List Edit) (wf : WellFormedSet S) (inside : Inside (star
 
   own-in-order : Order (clock n) (base n ++ S) (base n) (sortRank S S)
   own-in-order = in-order n S wf (sortRank S S) (ranked n S wf (λ (e : Edit) (m : InSet e S). not-own n S wf fs (ord .after) (ord .only) (ord .noTwice) e m (ord .all e m)))
-    (sortRank-from S S) (sortRank-once S S (wf .noTwice)) (r0 .1 .causal)
+      (sortRank-from S S) (sortRank-once S S (wf .noTwice)) (r0 .1 .causal)
 
   -- the set's own order arrives
   own-arrives : Arrives n (base n) (start n) (sortRank S S)
@@ -60,8 +57,8 @@ module _ (n : ℕ) (S : List Edit) (wf : WellFormedSet S) (inside : Inside (star
 
   pub arrives : Arrives n (base n) (start n) fs
   arrives = accept n (doneOf (clock n) (base n) (sortRank S S)) (replay (start n) (sortRank S S)) (own-run .0) (own-run .1) fs (base n) (start n) (r0 .0) (r0 .1)
-    (λ (e : Edit) (m : MemE e (base n)). done-in (clock n) (sortRank S S) (base n) e m) (λ (e : Edit) (m : MemE e fs). sound n S wf e (ord .only e m))
-    (order-done fs (base n) (in-order n S wf fs (ord .after) (ord .only) (ord .noTwice) (r0 .1 .causal)))
+      (λ (e : Edit) (m : MemE e (base n)). done-in (clock n) (sortRank S S) (base n) e m) (λ (e : Edit) (m : MemE e fs). sound n S wf e (ord .only e m))
+      (order-done fs (base n) (in-order n S wf fs (ord .after) (ord .only) (ord .noTwice) (r0 .1 .causal)))
 
   pub run : (key : OptId → Key) × Run n (doneOf (clock n) (base n) fs) (replay (start n) fs) key
   run = run-all n fs (base n) (start n) (r0 .0) (r0 .1) arrives
@@ -78,10 +75,10 @@ module _ (n : ℕ) (S : List Edit) (wf : WellFormedSet S) (inside : Inside (star
   unfolding unitsAt
   units-same v whole =
       sym (view-at v (replay (start n) fs .held) (replay (start n) fs .list))
-    ∙ (whole-same n (doneOf (clock n) (base n) fs) (doneOf (clock n) (base n) (sortRank S S)) (replay (start n) fs) (replay (start n) (sortRank S S)) (run .0) (own-run .0) (run .1) (own-run .1)
-        (move fs (sortRank S S) (λ (e : Edit) (m : MemE e fs). sortRank-to S S e (ord .only e m))) (move (sortRank S S) fs (λ (e : Edit) (m : MemE e (sortRank S S)). ord .all e (sortRank-from S S e m))) v whole
-    ∙ (view-at v (replay (start n) (sortRank S S) .held) (replay (start n) (sortRank S S) .list)
-    ∙ ap (λ (h : History). map noReal (unitsAt v h)) (sym tree-is)))
+      ∙ (whole-same n (doneOf (clock n) (base n) fs) (doneOf (clock n) (base n) (sortRank S S)) (replay (start n) fs) (replay (start n) (sortRank S S)) (run .0) (own-run .0) (run .1) (own-run .1)
+      (move fs (sortRank S S) (λ (e : Edit) (m : MemE e fs). sortRank-to S S e (ord .only e m))) (move (sortRank S S) fs (λ (e : Edit) (m : MemE e (sortRank S S)). ord .all e (sortRank-from S S e m))) v whole
+      ∙ (view-at v (replay (start n) (sortRank S S) .held) (replay (start n) (sortRank S S) .list)
+      ∙ ap (λ (h : History). map noReal (unitsAt v h)) (sym tree-is)))
 
   pub tree-walk : (v : Version) → unitsAt v (treeOf n S) ≡ walk (sortId (unitsAt v (treeOf n S)))
   tree-walk v = subst (λ (h : History). unitsAt v h ≡ walk (sortId (unitsAt v h))) (sym tree-is) (at-is-walk n (doneOf (clock n) (base n) (sortRank S S)) (replay (start n) (sortRank S S)) (own-run .0) (own-run .1) v)

@@ -1,9 +1,9 @@
 -- What of a unit never changes: all but its statuses, and the real id of a placeholder unit. What a version shows is made of that alone, and
 -- no origin or target depends on more.
-use Prim.Native.Nat.{ℕ, zero, suc, _<_, _≤_}
-use mathlib.Core.Path.{_≡_, refl, sym, ap, ap₂, subst, _∙_}
+use Prim.Native.Nat.{ℕ, zero, suc}
+use mathlib.Core.Path.{_≡_, refl, ap, ap₂, _∙_}
 use mathlib.Core.Bool.{Bool, true, false, not, cond}
-use mathlib.Core.List.{List, [], _∷_, _++_, map}
+use mathlib.Core.List.{List, [], _∷_, map}
 use lib.Dec.{eqb}
 use lib.IntN.{pos}
 use Rattle.span.specs.declared.ids.Id.{Id}
@@ -17,12 +17,12 @@ use Rattle.span.specs.Status.{status, activated}
 use Rattle.rope.specs.Lists.{keepIf}
 use Rattle.rope.specs.Place.{front, behind, lastId, firstPast, originLeft, originRight, shown}
 use Rattle.rope.specs.Change.{withState, firstShown, taken}
-use Rattle.fugue.specs.Tree.{ref, ol, or}
-use Rattle.fugue.proofs.Past.{notFuture, pastOf}
+use Rattle.fugue.specs.Tree.{ol, or}
+use Rattle.fugue.proofs.Past.{pastOf}
 use Rattle.fugue.proofs.Alike.{Same}
 use Rattle.history.specs.Edit.{Version, Held, History}
 use Rattle.history.specs.Version.{inVersion}
-use Rattle.history.specs.Checkout.{deletesIn, statusAt, unitsAt}
+use Rattle.history.specs.Checkout.{deletesIn, statusAt}
 use Rattle.history.specs.Checkout as Co
 use Rattle.history.specs.Demand.{realPlain, noReal}
 
@@ -59,8 +59,15 @@ plain-at v held u = refl
 pub view-plain : (v : Version) (A B : List Held) (u w : FugueSpan) → plain u ≡ plain w → deletesIn v A (u .id) ≡ deletesIn v B (w .id) → view v A u ≡ view v B w
 unfolding view plain withState statusAt
 view-plain v A B u w e d = λ i. record {
-    id = e i .id; lamport = e i .lamport; «real_id» = e i .«real_id»; status = status (not (inVersion v (e i .id))) (pos (d i));
-    «diff_status» = Opt.Nothing; «origin_left» = e i .«origin_left»; «origin_right» = e i .«origin_right»; content = e i .content }
+  id = e i .id;
+  lamport = e i .lamport;
+  «real_id» = e i .«real_id»;
+  status = status (not (inVersion v (e i .id))) (pos (d i));
+  «diff_status» = Opt.Nothing;
+  «origin_left» = e i .«origin_left»;
+  «origin_right» = e i .«origin_right»;
+  content = e i .content;
+}
 
 pub plain-view : (v : Version) (held : List Held) (u : FugueSpan) → plain (view v held u) ≡ plain u
 unfolding plain view withState
@@ -85,14 +92,14 @@ module _ (f : FugueSpan → FugueSpan) (k : Reads f) where
   front-map [] n = refl
   front-map (v ∷ l) zero = refl
   front-map (v ∷ l) (suc n) = ap (λ (z : List FugueSpan). f v ∷ z)
-    (ap (λ (s : Status). front (map f l) (cond (activated s) n (suc n))) (k .status v) ∙ front-map l (cond (activated (v .status)) n (suc n)))
+      (ap (λ (s : Status). front (map f l) (cond (activated s) n (suc n))) (k .status v) ∙ front-map l (cond (activated (v .status)) n (suc n)))
 
   behind-map : (l : List FugueSpan) (n : ℕ) → behind (map f l) n ≡ map f (behind l n)
   unfolding behind
   behind-map [] n = refl
   behind-map (v ∷ l) zero = refl
   behind-map (v ∷ l) (suc n) =
-    ap (λ (s : Status). behind (map f l) (cond (activated s) n (suc n))) (k .status v) ∙ behind-map l (cond (activated (v .status)) n (suc n))
+      ap (λ (s : Status). behind (map f l) (cond (activated s) n (suc n))) (k .status v) ∙ behind-map l (cond (activated (v .status)) n (suc n))
 
   lastId-map : (r : OptId) (l : List FugueSpan) → lastId r (map f l) ≡ lastId r l
   unfolding lastId
@@ -116,7 +123,7 @@ module _ (f : FugueSpan → FugueSpan) (k : Reads f) where
   firstShown-map (v ∷ l) (suc n) = go (activated (v .status)) (ap activated (k .status v)) (firstShown-map l)
     where
       go : (b : Bool) → activated (f v .status) ≡ b → ((n : ℕ) → firstShown (map f l) n ≡ map f (firstShown l n))
-        → cond (activated (f v .status)) (f v ∷ firstShown (map f l) n) (firstShown (map f l) (suc n)) ≡ map f (cond b (v ∷ firstShown l n) (firstShown l (suc n)))
+          → cond (activated (f v .status)) (f v ∷ firstShown (map f l) n) (firstShown (map f l) (suc n)) ≡ map f (cond b (v ∷ firstShown l n) (firstShown l (suc n)))
       go true e ih = ap (λ (b : Bool). cond b (f v ∷ firstShown (map f l) n) (firstShown (map f l) (suc n))) e ∙ ap (λ (z : List FugueSpan). f v ∷ z) (ih n)
       go false e ih = ap (λ (b : Bool). cond b (f v ∷ firstShown (map f l) n) (firstShown (map f l) (suc n))) e ∙ ih (suc n)
 
@@ -144,7 +151,7 @@ module _ (f : FugueSpan → FugueSpan) (k : Reads f) where
   pub taken-map : (n m : ℕ) (l : List FugueSpan) → map (λ (u : FugueSpan). u .id) (taken n m (map f l)) ≡ map (λ (u : FugueSpan). u .id) (taken n m l)
   unfolding taken
   taken-map n m l = ap (λ (z : List FugueSpan). map (λ (u : FugueSpan). u .id) z) (ap (λ (z : List FugueSpan). firstShown z m) (behind-map l n) ∙ firstShown-map (behind l n) m)
-    ∙ ids-map (firstShown (behind l n) m)
+      ∙ ids-map (firstShown (behind l n) m)
 
 -- ---- a unit without a placeholder's real id
 

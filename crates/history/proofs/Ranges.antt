@@ -1,9 +1,9 @@
 -- Id ranges joined while consecutive: they hold the ids that they were made of, and no more, and are no more than those.
-use Prim.Native.Nat.{ℕ, zero, suc, _+_, _<_, _≤_}
-use mathlib.Core.Path.{_≡_, refl, sym, ap, ap₂, subst, subst₂, _∙_}
+use Prim.Native.Nat.{ℕ, suc, _+_, _<_, _≤_}
+use mathlib.Core.Path.{_≡_, refl, sym, ap, ap₂, _∙_}
 use mathlib.Core.Logic.{_⊎_, inl, inr}
 use mathlib.Core.Bool.{Bool, true, false, _&&_, _||_, cond, true≢false}
-use mathlib.Core.List.{List, [], _∷_, _++_, List·Memᴰ, List·Memᴰ·head, List·Memᴰ·tail, List·Memᴰ·not-nil, List·Memᴰ·cases-cons}
+use mathlib.Core.List.{List, [], _∷_, List·Memᴰ, List·Memᴰ·head, List·Memᴰ·tail, List·Memᴰ·not-nil, List·Memᴰ·cases-cons}
 use native.Mathlib.Omega.{arith}
 use native.Mathlib.Decide.{decLt}
 use lib.Dec.{eqb, leb, ltb}
@@ -42,9 +42,9 @@ module _ (j : Id) (nj : Natural j) (r : Range) (nr : Natural (r .id)) where
   range-in : inRange j r ≡ true → (j .peer ≡ r .id .peer) × (at (r .id) ≤ at j) × (at j < at (r .id) + r .len)
   unfolding inRange
   range-in e =
-    let t = mathlib.Core.Bool.and-eq-true-iff (eqb (j .peer) (r .id .peer)) (leZ (r .id .counter) (j .counter) && ltZ (j .counter) (r .id .counter +ℤ pos (r .len))) .0 e in
-    let u = mathlib.Core.Bool.and-eq-true-iff (leZ (r .id .counter) (j .counter)) (ltZ (j .counter) (r .id .counter +ℤ pos (r .len))) .0 (t .1) in
-    (eqb-true (j .peer) (r .id .peer) (t .0), leb-true (at (r .id)) (at j) (sym low ∙ u .0), ltb-true (at j) (at (r .id) + r .len) (sym high ∙ u .1))
+      let t = mathlib.Core.Bool.and-eq-true-iff (eqb (j .peer) (r .id .peer)) (leZ (r .id .counter) (j .counter) && ltZ (j .counter) (r .id .counter +ℤ pos (r .len))) .0 e in
+      let u = mathlib.Core.Bool.and-eq-true-iff (leZ (r .id .counter) (j .counter)) (ltZ (j .counter) (r .id .counter +ℤ pos (r .len))) .0 (t .1) in
+      (eqb-true (j .peer) (r .id .peer) (t .0), leb-true (at (r .id)) (at j) (sym low ∙ u .0), ltb-true (at j) (at (r .id) + r .len) (sym high ∙ u .1))
 
 or-cases : (a b : Bool) → a || b ≡ true → (a ≡ true) ⊎ (b ≡ true)
 or-cases true b e = inl refl
@@ -77,12 +77,12 @@ module _ (i : Id) (ni : Natural i) (r : Range) (rs : List Range) (nr : Natural (
 
   join-from : incId i 1 ≡ r .id → inRange j (range i (suc (r .len))) ≡ true → (j ≡ i) ⊎ (inRange j r ≡ true)
   join-from e h =
-    let t : (j .peer ≡ i .peer) × (at i ≤ at j) × (at j < at i + suc (r .len)) = range-in j nj (range i (suc (r .len))) ni h in
-    let q : (i .peer ≡ r .id .peer) × (at (r .id) ≡ at i + 1) = next e in
-    let a : at i ≤ at j = t .1 in
-    let b : at j < at i + suc (r .len) = t .2 in
-    let c : at (r .id) ≡ at i + 1 = q .1 in
-    go (decLt (at i) (at j)) t q a b c
+      let t : (j .peer ≡ i .peer) × (at i ≤ at j) × (at j < at i + suc (r .len)) = range-in j nj (range i (suc (r .len))) ni h in
+      let q : (i .peer ≡ r .id .peer) × (at (r .id) ≡ at i + 1) = next e in
+      let a : at i ≤ at j = t .1 in
+      let b : at j < at i + suc (r .len) = t .2 in
+      let c : at (r .id) ≡ at i + 1 = q .1 in
+      go (decLt (at i) (at j)) t q a b c
     where
       go : Dec (at i < at j) → (j .peer ≡ i .peer) × (at i ≤ at j) × (at j < at i + suc (r .len)) → (i .peer ≡ r .id .peer) × (at (r .id) ≡ at i + 1) → at i ≤ at j → at j < at i + suc (r .len) → at (r .id) ≡ at i + 1 → (j ≡ i) ⊎ (inRange j r ≡ true)
       go (yes y) t q a b c = inr (in-range j nj r nr (t .0 ∙ q .0) (omega arith) (omega arith))
@@ -91,20 +91,20 @@ module _ (i : Id) (ni : Natural i) (r : Range) (rs : List Range) (nr : Natural (
   join-to : incId i 1 ≡ r .id → (j ≡ i) ⊎ (inRange j r ≡ true) → inRange j (range i (suc (r .len))) ≡ true
   join-to e (inl d) = in-range j nj (range i (suc (r .len))) ni (ap (λ (z : Id). z .peer) d) (let q : at j ≡ at i = ap at d in omega arith) (let q : at j ≡ at i = ap at d in omega arith)
   join-to e (inr h) =
-    let t : (j .peer ≡ r .id .peer) × (at (r .id) ≤ at j) × (at j < at (r .id) + r .len) = range-in j nj r nr h in
-    let q : (i .peer ≡ r .id .peer) × (at (r .id) ≡ at i + 1) = next e in
-    let a : at (r .id) ≤ at j = t .1 in
-    let b : at j < at (r .id) + r .len = t .2 in
-    let c : at (r .id) ≡ at i + 1 = q .1 in
-    in-range j nj (range i (suc (r .len))) ni (t .0 ∙ sym (q .0)) (omega arith) (omega arith)
+      let t : (j .peer ≡ r .id .peer) × (at (r .id) ≤ at j) × (at j < at (r .id) + r .len) = range-in j nj r nr h in
+      let q : (i .peer ≡ r .id .peer) × (at (r .id) ≡ at i + 1) = next e in
+      let a : at (r .id) ≤ at j = t .1 in
+      let b : at j < at (r .id) + r .len = t .2 in
+      let c : at (r .id) ≡ at i + 1 = q .1 in
+      in-range j nj (range i (suc (r .len))) ni (t .0 ∙ sym (q .0)) (omega arith) (omega arith)
 
 -- a single id
 one-from : (i j : Id) → Natural i → Natural j → inRange j (range i 1) ≡ true → j ≡ i
 one-from i j ni nj h =
-  let t : (j .peer ≡ i .peer) × (at i ≤ at j) × (at j < at i + 1) = range-in j nj (range i 1) ni h in
-  let a : at i ≤ at j = t .1 in
-  let b : at j < at i + 1 = t .2 in
-  same-id j i nj ni (t .0) (omega arith)
+    let t : (j .peer ≡ i .peer) × (at i ≤ at j) × (at j < at i + 1) = range-in j nj (range i 1) ni h in
+    let a : at i ≤ at j = t .1 in
+    let b : at j < at i + 1 = t .2 in
+    same-id j i nj ni (t .0) (omega arith)
 
 one-to : (i j : Id) → Natural i → Natural j → j ≡ i → inRange j (range i 1) ≡ true
 one-to i j ni nj d = let q : at j ≡ at i = ap at d in in-range j nj (range i 1) ni (ap (λ (z : Id). z .peer) d) (omega arith) (omega arith)
@@ -125,9 +125,11 @@ on-from i (r ∷ rs) j ni n nj e = go (sameId (incId i 1) (r .id)) refl e
         two : (j ≡ i) ⊎ (inRange j r ≡ true) → (j ≡ i) ⊎ (inRange j r || some (inRange j) rs ≡ true)
         two (inl k) = inl k
         two (inr k) = inr (or-left (inRange j r) (some (inRange j) rs) k)
+
     single : (inRange j (range i 1) ≡ true) ⊎ (inRange j r || some (inRange j) rs ≡ true) → (j ≡ i) ⊎ (inRange j r || some (inRange j) rs ≡ true)
     single (inl h) = inl (one-from i j ni nj h)
     single (inr h) = inr h
+
     go : (b : Bool) → sameId (incId i 1) (r .id) ≡ b → some (inRange j) (cond b (range i (suc (r .len)) ∷ rs) (range i 1 ∷ (r ∷ rs))) ≡ true → (j ≡ i) ⊎ (inRange j r || some (inRange j) rs ≡ true)
     go true d h = rest (or-cases (inRange j (range i (suc (r .len)))) (some (inRange j) rs) h) (sameId-true (incId i 1) (r .id) d)
     go false d h = single (or-cases (inRange j (range i 1)) (inRange j r || some (inRange j) rs) h)
@@ -141,6 +143,7 @@ on-to i (r ∷ rs) j ni n nj s = go (sameId (incId i 1) (r .id)) refl s
     rest : incId i 1 ≡ r .id → (inRange j r ≡ true) ⊎ (some (inRange j) rs ≡ true) → inRange j (range i (suc (r .len))) || some (inRange j) rs ≡ true
     rest d (inl h) = or-left (inRange j (range i (suc (r .len)))) (some (inRange j) rs) (join-to i ni r rs (n .0) j nj d (inr h))
     rest d (inr h) = or-right (inRange j (range i (suc (r .len)))) (some (inRange j) rs) h
+
     go : (b : Bool) → sameId (incId i 1) (r .id) ≡ b → (j ≡ i) ⊎ (inRange j r || some (inRange j) rs ≡ true) → some (inRange j) (cond b (range i (suc (r .len)) ∷ rs) (range i 1 ∷ (r ∷ rs))) ≡ true
     go true d (inl k) = or-left (inRange j (range i (suc (r .len)))) (some (inRange j) rs) (join-to i ni r rs (n .0) j nj (sameId-true (incId i 1) (r .id) d) (inl k))
     go true d (inr h) = rest (sameId-true (incId i 1) (r .id) d) (or-cases (inRange j r) (some (inRange j) rs) h)

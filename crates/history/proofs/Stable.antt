@@ -1,18 +1,15 @@
 -- What an edit sees does not change by later arrivals (L8.1): units and deletes that are not in its context add nothing to it. And an edit that arrives
 -- finds at its context the origins, targets and visible length that the units of the context alone give (§6).
-use Prim.Native.Nat.{ℕ, zero, suc, _+_, _<_, _≤_}
+use Prim.Native.Nat.{ℕ, zero, suc, _+_, _≤_}
 use mathlib.Core.Path.{_≡_, refl, sym, ap, ap₂, subst, _∙_}
 use mathlib.Core.Logic.{_⊎_, inl, inr}
 use mathlib.Core.Bool.{Bool, true, false, not, _&&_, cond}
 use mathlib.Core.List.{List, [], _∷_, _++_, map, List·Memᴰ·head, List·Memᴰ·tail, Memᴰ·map, Memᴰ·of-map, nil≢cons, head-eq-of-cons-eq, tail-eq-of-cons-eq}
 use lib.Dec.{leb}
-use lib.IntN.{pos, _+ℤ_}
-use native.Mathlib.Omega.{arith}
-use borrow.Author.Tests.{leb-true}
+use lib.IntN.{pos}
 use Rattle.span.specs.declared.ids.Id.{Id}
 use Rattle.span.specs.declared.ids.OptId.{OptId}
 use Rattle.span.specs.declared.ids.OptId.the-variants.{Nothing, At}
-use Rattle.span.specs.declared.status.Status.{Status}
 use Rattle.span.specs.declared.span.OptStatus.the-variants as Opt
 use Rattle.span.specs.declared.span.FugueSpan.{FugueSpan}
 use Rattle.span.specs.Ids.{UNKNOWN-PEER, incId}
@@ -23,11 +20,11 @@ use Rattle.rope.specs.Change.{withState, orReal, deleteUnit, deleteFirst, delet
 use Rattle.fugue.proofs.ScanPlace.{Mem}
 use Rattle.fugue.proofs.Range.{front-behind}
 use Rattle.fugue.proofs.Past.{notFuture, pastOf, shown-past, originLeft-past, originRight-past, taken-past}
-use Rattle.fugue.proofs.Alike.{Same, Alike}
+use Rattle.fugue.proofs.Alike.{Alike}
 use Rattle.fugue.proofs.Sorts.{Splice}
-use Rattle.history.specs.Edit.{Version, Act, Insert, Delete, Edit, Range, Held, History}
+use Rattle.history.specs.Edit.{Version, Act, Insert, Delete, Edit, Held, History}
 use Rattle.history.specs.Version.{number, countOf, below}
-use Rattle.history.specs.Checkout.{inRanges, rangesOf, deletesIn, statusAt, unitsAt}
+use Rattle.history.specs.Checkout.{inRanges, rangesOf, deletesIn, unitsAt}
 use Rattle.history.specs.Checkout as Co
 use Rattle.history.specs.Arrive.{actTook}
 use Rattle.history.specs.Codes.{inside}
@@ -66,8 +63,8 @@ view-list v held [] [] e = refl
 view-list v held [] (w ∷ m) e = absurd (nil≢cons e)
 view-list v held (u ∷ l) [] e = absurd (nil≢cons (sym e))
 view-list v held (u ∷ l) (w ∷ m) e =
-  let d : plain u ≡ plain w = head-eq-of-cons-eq e in
-  ap₂ _∷_ (view-plain v held held u w d (ap (deletesIn v held) (plain-same u w d .id))) (view-list v held l m (tail-eq-of-cons-eq e))
+    let d : plain u ≡ plain w = head-eq-of-cons-eq e in
+    ap₂ _∷_ (view-plain v held held u w d (ap (deletesIn v held) (plain-same u w d .id))) (view-list v held l m (tail-eq-of-cons-eq e))
 
 pub plain-alike : (l m : List FugueSpan) → map plain l ≡ map plain m → Alike l m
 plain-alike [] [] e = tt
@@ -99,7 +96,7 @@ plain-first (u ∷ l) zero i f = refl
 plain-first (u ∷ l) (suc n) i f = go (activated (u .status)) (λ (m : ℕ) (j : Id). plain-first l m j (λ (w : FugueSpan) (k : Mem w l). f w (List·Memᴰ·tail k)))
   where
     go : (b : Bool) → ((m : ℕ) (j : Id) → map plain (deleteFirst l m j) ≡ map plain l)
-      → map plain (cond b (deleteUnit i u ∷ deleteFirst l n (incId i 1)) (u ∷ deleteFirst l (suc n) i)) ≡ plain u ∷ map plain l
+        → map plain (cond b (deleteUnit i u ∷ deleteFirst l n (incId i 1)) (u ∷ deleteFirst l (suc n) i)) ≡ plain u ∷ map plain l
     go true ih = ap₂ _∷_ (plain-deleted i u (f u (List·Memᴰ·head refl))) (ih n (incId i 1))
     go false ih = ap (λ (z : List FugueSpan). plain u ∷ z) (ih (suc n) i)
 
@@ -107,9 +104,9 @@ pub plain-deletes : (at n : ℕ) (i : Id) (l : List FugueSpan) → ((u : FugueSp
 unfolding deleteUnits
 plain-deletes at n i l f =
     map-app plain (front l at) (deleteFirst (behind l at) n i)
-  ∙ (ap (λ (z : List FugueSpan). map plain (front l at) ++ z) (plain-first (behind l at) n i (λ (u : FugueSpan) (m : Mem u (behind l at)).
-      f u (subst (λ (z : List FugueSpan). Mem u z) (front-behind l at) (mathlib.Core.List.Memᴰ·append-right (front l at) m))))
-  ∙ (sym (map-app plain (front l at) (behind l at)) ∙ ap (map plain) (front-behind l at)))
+    ∙ (ap (λ (z : List FugueSpan). map plain (front l at) ++ z) (plain-first (behind l at) n i (λ (u : FugueSpan) (m : Mem u (behind l at)).
+    f u (subst (λ (z : List FugueSpan). Mem u z) (front-behind l at) (mathlib.Core.List.Memᴰ·append-right (front l at) m))))
+    ∙ (sym (map-app plain (front l at) (behind l at)) ∙ ap (map plain) (front-behind l at)))
 
 -- ---- later arrivals
 
@@ -123,27 +120,31 @@ view-skip v held x e [] = refl
 view-skip v held x e (u ∷ l) = ap₂ _∷_ (view-plain v (held ++ (x ∷ [])) held u u refl (deletes-skip v held x (u .id) e)) (view-skip v held x e l)
 
 pub view-splice : (v : Version) (held : List Held) (l new l′ m : List FugueSpan) → Splice l new l′ → map plain l ≡ map plain m
-  → ((w : FugueSpan) → Mem w new → Natural (w .id) × ¬ (w .id .peer ≡ UNKNOWN-PEER) × (countOf v (w .id .peer) ≤ number (w .id .counter)))
-  → pastOf (map (view v held) l′) ≡ pastOf (map (view v held) m)
+    → ((w : FugueSpan) → Mem w new → Natural (w .id) × ¬ (w .id .peer ≡ UNKNOWN-PEER) × (countOf v (w .id .peer) ≤ number (w .id .counter)))
+    → pastOf (map (view v held) l′) ≡ pastOf (map (view v held) m)
 unfolding view withState
 view-splice v held l new l′ m s e out =
     ap (λ (z : List FugueSpan). pastOf (map f z)) (s .now)
-  ∙ (ap pastOf (map-app f A (new ++ B) ∙ ap (λ (z : List FugueSpan). map f A ++ z) (map-app f new B))
-  ∙ (past-app (map f A) (map f new ++ map f B)
-  ∙ (ap (λ (z : List FugueSpan). pastOf (map f A) ++ z) (past-app (map f new) (map f B) ∙ ap (λ (z : List FugueSpan). z ++ pastOf (map f B)) gone)
-  ∙ (sym (past-app (map f A) (map f B))
-  ∙ (ap pastOf (sym (map-app f A B) ∙ (ap (map f) (sym (s .old)) ∙ view-list v held l m e)))))))
+    ∙ (ap pastOf (map-app f A (new ++ B) ∙ ap (λ (z : List FugueSpan). map f A ++ z) (map-app f new B))
+    ∙ (past-app (map f A) (map f new ++ map f B)
+    ∙ (ap (λ (z : List FugueSpan). pastOf (map f A) ++ z) (past-app (map f new) (map f B) ∙ ap (λ (z : List FugueSpan). z ++ pastOf (map f B)) gone)
+    ∙ (sym (past-app (map f A) (map f B))
+    ∙ (ap pastOf (sym (map-app f A B) ∙ (ap (map f) (sym (s .old)) ∙ view-list v held l m e)))))))
   where
     f : FugueSpan → FugueSpan
     f = view v held
+
     A : List FugueSpan
     A = s .before
+
     B : List FugueSpan
     B = s .rest
+
     each : (w : FugueSpan) → (a : FugueSpan) × Mem a new × (f a ≡ w) → w .status .future ≡ true
     each w t =
-      let k : Natural (t .0 .id) × ¬ (t .0 .id .peer ≡ UNKNOWN-PEER) × (countOf v (t .0 .id .peer) ≤ number (t .0 .id .counter)) = out (t .0) (t .1) in
-      subst (λ (z : FugueSpan). z .status .future ≡ true) (t .2) (future-of 0 v held (t .0 .id) (k .0) (k .1) (k .2))
+        let k : Natural (t .0 .id) × ¬ (t .0 .id .peer ≡ UNKNOWN-PEER) × (countOf v (t .0 .id .peer) ≤ number (t .0 .id .counter)) = out (t .0) (t .1) in
+        subst (λ (z : FugueSpan). z .status .future ≡ true) (t .2) (future-of 0 v held (t .0 .id) (k .0) (k .1) (k .2))
+
     gone : pastOf (map f new) ≡ []
     gone = past-none (map f new) (λ (w : FugueSpan) (k : Mem w (map f new)). each w (Memᴰ·of-map f new k))
 
@@ -167,8 +168,8 @@ module _ (v : Version) (h : History) where
   unfolding actTook
   took-sees (Insert lam c) e = refl
   took-sees (Delete n reversed target) e = ap rangesOf
-    (ap (map (λ (u : FugueSpan). u .id)) (taken-past (unitsAt v h) (e .at) n)
-    ∙ (sym (taken-map noReal noReal-reads (e .at) n (pastOf (unitsAt v h))) ∙ ap (λ (z : List FugueSpan). map (λ (u : FugueSpan). u .id) (taken (e .at) n z)) (sym sees-at)))
+      (ap (map (λ (u : FugueSpan). u .id)) (taken-past (unitsAt v h) (e .at) n)
+      ∙ (sym (taken-map noReal noReal-reads (e .at) n (pastOf (unitsAt v h))) ∙ ap (λ (z : List FugueSpan). map (λ (u : FugueSpan). u .id) (taken (e .at) n z)) (sym sees-at)))
 
   pub inside-sees : (a : Act) (at : ℕ) → inside a at (unitsAt v h) ≡ inside a at (sees v h)
   unfolding inside

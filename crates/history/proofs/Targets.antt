@@ -3,9 +3,9 @@ use Prim.Native.Nat.{ℕ, zero, suc, _+_, _<_, _≤_}
 use mathlib.Core.Path.{_≡_, refl, sym, ap, ap₂, subst, _∙_}
 use mathlib.Core.Logic.{_⊎_, inl, inr}
 use mathlib.Core.Bool.{Bool, true, false, _&&_, cond}
-use mathlib.Core.List.{List, [], _∷_, _++_, map, List·Memᴰ, List·Memᴰ·head, List·Memᴰ·tail, List·Memᴰ·not-nil, List·Memᴰ·cases-cons, Memᴰ·map, Memᴰ·of-map, Memᴰ·cast}
+use mathlib.Core.List.{List, [], _∷_, map, List·Memᴰ·head, List·Memᴰ·tail, List·Memᴰ·not-nil, List·Memᴰ·cases-cons, Memᴰ·map, Memᴰ·of-map, Memᴰ·cast}
 use native.Mathlib.Omega.{arith}
-use lib.Dec.{eqb, leb}
+use lib.Dec.{eqb}
 use lib.ListN.{length, length-map}
 use borrow.Author.Tests.{eq-eqb, leb-true}
 use Rattle.span.specs.declared.ids.Id.{Id}
@@ -16,11 +16,10 @@ use Rattle.span.specs.Status.{activated}
 use Rattle.rope.specs.Lists.{some, keepIf}
 use Rattle.rope.specs.Place.{behind, shown}
 use Rattle.rope.specs.Change.{firstShown, taken}
-use Rattle.fugue.specs.Tree.{ref}
-use Rattle.fugue.proofs.Keys.{Key, Lt}
+use Rattle.fugue.proofs.Keys.{Key}
 use Rattle.fugue.proofs.ScanPlace.{Mem, Sorted}
-use Rattle.fugue.proofs.Past.{notFuture, behind-zero}
-use Rattle.fugue.proofs.Alike.{Same, alike-map, sorted-alike}
+use Rattle.fugue.proofs.Past.{notFuture}
+use Rattle.fugue.proofs.Alike.{alike-map, sorted-alike}
 use Rattle.fugue.proofs.Walk.{keepIf-in, keepIf-keeps, sorted-unique, sorted-uniq}
 use Rattle.history.specs.Edit.{Version, Act, Insert, Delete, Edit, Range, Held, History}
 use Rattle.history.specs.Checkout.{inRanges, rangesOf}
@@ -28,7 +27,7 @@ use Rattle.history.specs.Arrive.{actTook}
 use Rattle.history.specs.Valid.{sameRanges, total, rangesIn, actLength, targetsFit}
 use Rattle.history.specs.Codes.{inside}
 use Rattle.history.proofs.Plain.{view, view-same, sees}
-use Rattle.history.proofs.Context.{count, clock, Known, before, before-known, Natural}
+use Rattle.history.proofs.Context.{count, Known, before, before-known, Natural}
 use Rattle.history.proofs.Run.{MemE, MemH, num, Run, unit-natural, seen-from}
 use Rattle.history.proofs.Compare.{sorted-sees, sorted-keep, behind-sub}
 use Rattle.history.proofs.Ranges.{AllNatural, ranges-from, ranges-to, ranges-total, ranges-length, sameRanges-refl}
@@ -38,7 +37,7 @@ idOf u = u .id
 
 -- ---- the first n visible units behind a position
 
-first-in : (l : List FugueSpan) (n : ℕ) (w : FugueSpan) → Mem w (firstShown l n) → Mem w l
+pub first-in : (l : List FugueSpan) (n : ℕ) (w : FugueSpan) → Mem w (firstShown l n) → Mem w l
 unfolding firstShown
 first-in [] n w m = m
 first-in (v ∷ l) zero w m = absurd (List·Memᴰ·not-nil m)
@@ -47,6 +46,7 @@ first-in (v ∷ l) (suc n) w m = go (activated (v .status)) m (first-in l n w) (
     two : (Mem w (firstShown l n) → Mem w l) → (w ≡ v) ⊎ Mem w (firstShown l n) → Mem w (v ∷ l)
     two ih (inl d) = List·Memᴰ·head d
     two ih (inr k) = List·Memᴰ·tail (ih k)
+
     go : (b : Bool) → Mem w (cond b (v ∷ firstShown l n) (firstShown l (suc n))) → (Mem w (firstShown l n) → Mem w l) → (Mem w (firstShown l (suc n)) → Mem w l) → Mem w (v ∷ l)
     go true k ih ih2 = two ih (List·Memᴰ·cases-cons k)
     go false k ih ih2 = List·Memᴰ·tail (ih2 k)
@@ -61,7 +61,7 @@ sorted-first key (v ∷ l) (suc n) s = go (activated (v .status)) (sorted-first 
     go true ih ih2 = (λ (w : FugueSpan) (m : Mem w (firstShown l n)). s .0 w (first-in l n w m), ih)
     go false ih ih2 = ih2
 
-sorted-behind : (key : OptId → Key) (l : List FugueSpan) (n : ℕ) → Sorted key l → Sorted key (behind l n)
+pub sorted-behind : (key : OptId → Key) (l : List FugueSpan) (n : ℕ) → Sorted key l → Sorted key (behind l n)
 unfolding behind
 sorted-behind key [] n s = tt
 sorted-behind key (v ∷ l) zero s = s
@@ -74,7 +74,7 @@ first-length (v ∷ l) zero h = refl
 first-length (v ∷ l) (suc n) h = go (activated (v .status)) h (first-length l n) (first-length l (suc n))
   where
     go : (b : Bool) → suc n ≤ cond b (suc (shown l)) (shown l) → (n ≤ shown l → length (firstShown l n) ≡ n) → (suc n ≤ shown l → length (firstShown l (suc n)) ≡ suc n)
-      → length (cond b (v ∷ firstShown l n) (firstShown l (suc n))) ≡ suc n
+        → length (cond b (v ∷ firstShown l n) (firstShown l (suc n))) ≡ suc n
     go true k ih ih2 = ap suc (ih (omega arith))
     go false k ih ih2 = ih2 k
 
@@ -85,7 +85,7 @@ shown-behind (v ∷ l) zero h = (unfold shown in omega arith)
 shown-behind (v ∷ l) (suc n) h = go (activated (v .status)) h (shown-behind l n) (shown-behind l (suc n))
   where
     go : (b : Bool) → suc n ≤ cond b (suc (shown l)) (shown l) → (n ≤ shown l → shown (behind l n) + n ≡ shown l) → (suc n ≤ shown l → shown (behind l (suc n)) + suc n ≡ shown l)
-      → shown (behind l (cond b n (suc n))) + suc n ≡ cond b (suc (shown l)) (shown l)
+        → shown (behind l (cond b n (suc n))) + suc n ≡ cond b (suc (shown l)) (shown l)
     go true k ih ih2 = let q : shown (behind l n) + n ≡ shown l = ih (omega arith) in omega arith
     go false k ih ih2 = ih2 k
 
@@ -120,8 +120,8 @@ module _ (n : ℕ) (done : List Edit) (h : History) (key : OptId → Key) (r : R
 
     from : (w : FugueSpan) → Mem w (taken at m (sees v h)) → (a : FugueSpan) × Mem a (h .list) × (view v (h .held) a ≡ w)
     from w k =
-      let t : (a : FugueSpan) × Mem a (h .list) × (view v (h .held) a ≡ w) × (num a < count n v (a .id .peer)) × (notFuture w ≡ true) = seen-from n done h key r v w (in-sees w k) in
-      (t .0, t .1, t .2)
+        let t : (a : FugueSpan) × Mem a (h .list) × (view v (h .held) a ≡ w) × (num a < count n v (a .id .peer)) × (notFuture w ≡ true) = seen-from n done h key r v w (in-sees w k) in
+        (t .0, t .1, t .2)
 
     nat : AllNatural (map idOf (taken at m (sees v h)))
     nat = all-natural (taken at m (sees v h)) (λ (w : FugueSpan) (k : Mem w (taken at m (sees v h))). go w (from w k))
@@ -145,17 +145,19 @@ module _ (n : ℕ) (done : List Edit) (h : History) (key : OptId → Key) (r : R
       where
         meet : (a : FugueSpan) → Mem a (h .list) → (w : FugueSpan) → view v (h .held) a ≡ w → (t : FugueSpan) × Mem t (taken at m (sees v h)) × (idOf t ≡ a .id) → Mem w (taken at m (sees v h))
         meet a ma w e t =
-          let b : (x : FugueSpan) × Mem x (h .list) × (view v (h .held) x ≡ t .0) = from (t .0) (t .1) in
-          let q : b .0 ≡ a = sorted-uniq key (h .list) (r .good .sorted) (b .0) a (b .1) ma (ap At (view-same v (h .held) (b .0) .id ∙ (ap idOf (b .2) ∙ t .2))) in
-          Memᴰ·cast (sym e ∙ (ap (view v (h .held)) (sym q) ∙ b .2)) (t .1)
+            let b : (x : FugueSpan) × Mem x (h .list) × (view v (h .held) x ≡ t .0) = from (t .0) (t .1) in
+            let q : b .0 ≡ a = sorted-uniq key (h .list) (r .good .sorted) (b .0) a (b .1) ma (ap At (view-same v (h .held) (b .0) .id ∙ (ap idOf (b .2) ∙ t .2))) in
+            Memᴰ·cast (sym e ∙ (ap (view v (h .held)) (sym q) ∙ b .2)) (t .1)
+
         to : (w : FugueSpan) → (a : FugueSpan) × Mem a (keepIf test (h .list)) × (view v (h .held) a ≡ w) → Mem w (taken at m (sees v h))
         to w t =
-          let k : Mem (t .0) (h .list) × (test (t .0) ≡ true) = keepIf-in test (h .list) (t .0) (t .1) in
-          meet (t .0) (k .0) w (t .2) (Memᴰ·of-map idOf (taken at m (sees v h)) (ranges-from (map idOf (taken at m (sees v h))) (t .0 .id) nat (unit-natural n done h key r (t .0) (k .0)) (k .1)))
+            let k : Mem (t .0) (h .list) × (test (t .0) ≡ true) = keepIf-in test (h .list) (t .0) (t .1) in
+            meet (t .0) (k .0) w (t .2) (Memᴰ·of-map idOf (taken at m (sees v h)) (ranges-from (map idOf (taken at m (sees v h))) (t .0 .id) nat (unit-natural n done h key r (t .0) (k .0)) (k .1)))
+
         back : (w : FugueSpan) → Mem w (taken at m (sees v h)) → (a : FugueSpan) × Mem a (h .list) × (view v (h .held) a ≡ w) → Mem w (map (view v (h .held)) (keepIf test (h .list)))
         back w k t =
-          let i : t .0 .id ≡ w .id = view-same v (h .held) (t .0) .id ∙ ap idOf (t .2) in
-          Memᴰ·cast (sym (t .2)) (Memᴰ·map (view v (h .held)) (keepIf-keeps test (h .list) (t .0) (t .1)
+            let i : t .0 .id ≡ w .id = view-same v (h .held) (t .0) .id ∙ ap idOf (t .2) in
+            Memᴰ·cast (sym (t .2)) (Memᴰ·map (view v (h .held)) (keepIf-keeps test (h .list) (t .0) (t .1)
             (ranges-to (map idOf (taken at m (sees v h))) (t .0 .id) nat (unit-natural n done h key r (t .0) (t .1)) (Memᴰ·cast i (Memᴰ·map idOf k)))))
 
     ranges-is : rangesIn (h .list) (rangesOf (map idOf (taken at m (sees v h)))) ≡ rangesOf (map idOf (taken at m (sees v h)))
@@ -166,18 +168,18 @@ module _ (n : ℕ) (done : List Edit) (h : History) (key : OptId → Key) (r : R
   unfolding actTook
   took-fits (Insert lam c) e k i = unfold total rangesIn rangesOf sameRanges in ap (λ (l : List FugueSpan). eqb 0 0 && sameRanges [] (rangesOf (map idOf l))) (keep-none (h .list))
   took-fits (Delete m reversed target) e k i =
-    let q : before e h ≡ sees (e .context) h = before-known e h k in
-    let b : e .at + m ≤ shown (before e h) = (unfold inside in leb-true (e .at + m) (shown (before e h)) i) in
-    subst (λ (l : List FugueSpan). (eqb (total (rangesOf (map idOf (taken (e .at) m l)))) m && sameRanges (rangesOf (map idOf (taken (e .at) m l))) (rangesIn (h .list) (rangesOf (map idOf (taken (e .at) m l))))) ≡ true) (sym q)
+      let q : before e h ≡ sees (e .context) h = before-known e h k in
+      let b : e .at + m ≤ shown (before e h) = (unfold inside in leb-true (e .at + m) (shown (before e h)) i) in
+      subst (λ (l : List FugueSpan). (eqb (total (rangesOf (map idOf (taken (e .at) m l)))) m && sameRanges (rangesOf (map idOf (taken (e .at) m l))) (rangesIn (h .list) (rangesOf (map idOf (taken (e .at) m l))))) ≡ true) (sym q)
       (ap₂ _&&_ (eq-eqb (total (rangesOf (map idOf (taken (e .at) m (sees (e .context) h))))) m
-          (ranges-total (map idOf (taken (e .at) m (sees (e .context) h))) ∙ (length-map (taken (e .at) m (sees (e .context) h)) idOf ∙ taken-length (sees (e .context) h) (e .at) m (subst (λ (l : List FugueSpan). e .at + m ≤ shown l) q b))))
-        (ap (sameRanges (rangesOf (map idOf (taken (e .at) m (sees (e .context) h))))) (ranges-is (e .context) (e .at) m) ∙ sameRanges-refl (rangesOf (map idOf (taken (e .at) m (sees (e .context) h))))))
+      (ranges-total (map idOf (taken (e .at) m (sees (e .context) h))) ∙ (length-map (taken (e .at) m (sees (e .context) h)) idOf ∙ taken-length (sees (e .context) h) (e .at) m (subst (λ (l : List FugueSpan). e .at + m ≤ shown l) q b))))
+      (ap (sameRanges (rangesOf (map idOf (taken (e .at) m (sees (e .context) h))))) (ranges-is (e .context) (e .at) m) ∙ sameRanges-refl (rangesOf (map idOf (taken (e .at) m (sees (e .context) h))))))
 
   pub targets-fit : (x : Held) → MemH x (h .held) → targetsFit (h .list) x ≡ true
   unfolding targetsFit
   targets-fit x m =
-    let t : MemE (x .edit) done × Known (x .edit) × (x .took ≡ actTook (x .edit .act) (x .edit) (before (x .edit) h)) = r .tooks x m in
-    subst (λ (z : List Range). (eqb (total z) (actLength (x .edit .act)) && sameRanges z (rangesIn (h .list) z)) ≡ true) (sym (t .2)) (took-fits (x .edit .act) (x .edit) (t .1) (r .fit (x .edit) (t .0)))
+      let t : MemE (x .edit) done × Known (x .edit) × (x .took ≡ actTook (x .edit .act) (x .edit) (before (x .edit) h)) = r .tooks x m in
+      subst (λ (z : List Range). (eqb (total z) (actLength (x .edit .act)) && sameRanges z (rangesIn (h .list) z)) ≡ true) (sym (t .2)) (took-fits (x .edit .act) (x .edit) (t .1) (r .fit (x .edit) (t .0)))
 
 -- no more ranges than units taken
 first-few : (l : List FugueSpan) (n : ℕ) → length (firstShown l n) ≤ n

@@ -1,14 +1,14 @@
 -- Units stay well formed by inserts, deletes and checkouts; joined they are a well formed list (no 15), no longer than they are many.
-use Prim.Native.Nat.{ℕ, zero, suc, _+_, _<_, _≤_}
+use Prim.Native.Nat.{ℕ, zero, suc, _+_, _≤_}
 use mathlib.Core.Path.{_≡_, refl, sym, ap, ap₂, subst, _∙_}
 use mathlib.Core.Logic.{_⊎_, inl, inr}
-use mathlib.Core.Bool.{Bool, true, false, not, _&&_, cond, true≢false, and-eq-true-iff}
-use mathlib.Core.List.{List, [], _∷_, _++_, map, List·Memᴰ·head, List·Memᴰ·tail, List·Memᴰ·not-nil, List·Memᴰ·cases-cons, List·Memᴰ·append-cases, Memᴰ·append-left, Memᴰ·append-right, Memᴰ·of-map}
+use mathlib.Core.Bool.{Bool, true, false, not, _&&_, cond, and-eq-true-iff}
+use mathlib.Core.List.{List, [], _∷_, _++_, List·Memᴰ·head, List·Memᴰ·tail, List·Memᴰ·not-nil, List·Memᴰ·cases-cons, List·Memᴰ·append-cases, Memᴰ·append-left, Memᴰ·append-right, Memᴰ·of-map}
 use native.Mathlib.Omega.{arith}
 use lib.Dec.{eqb, leb}
-use lib.IntN.{ℤ, pos, negsuc, _+ℤ_}
+use lib.IntN.{ℤ, pos, _+ℤ_}
 use lib.ListN.{length}
-use borrow.Author.Tests.{eq-eqb, le-leb, leb-true, ne-eqb}
+use borrow.Author.Tests.{eq-eqb, le-leb, ne-eqb}
 use Rattle.span.specs.declared.chunk.RichtextChunk.{RichtextChunk}
 use Rattle.span.specs.declared.ids.Id.{Id}
 use Rattle.span.specs.declared.ids.OptId.{OptId}
@@ -40,7 +40,7 @@ use Rattle.fugue.proofs.Insert.{In, Good}
 use Rattle.fugue.proofs.Range.{front-behind}
 use Rattle.fugue.proofs.Splices.{insert-splice, splice-from, unit-in}
 use Rattle.history.specs.Edit.{Version, Held, History}
-use Rattle.history.specs.Checkout.{unitsAt}
+use Rattle.history.specs.Checkout.{unitsAt, unitsBetween}
 use Rattle.history.specs.Checkout as Co
 
 -- a well formed unit
@@ -77,13 +77,24 @@ units-at v h f u m = go (Memᴰ·of-map (Co.unitAt v (h .held)) (h .list) m)
     go : (a : FugueSpan) × Mem a (h .list) × (Co.unitAt v (h .held) a ≡ u) → Unit1 u
     go t = subst Unit1 (t .2) (unit-at v (h .held) (t .0) (f (t .0) (t .1)))
 
+unit-between : (a b : Version) (held : List Held) (u : FugueSpan) → Unit1 u → Unit1 (Co.unitBetween a b held u)
+unfolding spanCode idsOk Co.unitBetween withState
+unit-between a b held u k = k
+
+pub units-between : (a b : Version) (h : History) → Units1 (h .list) → Units1 (unitsBetween a b h)
+unfolding unitsBetween
+units-between a b h f u m = go (Memᴰ·of-map (Co.unitBetween a b (h .held)) (h .list) m)
+  where
+    go : (w : FugueSpan) × Mem w (h .list) × (Co.unitBetween a b (h .held) w ≡ u) → Unit1 u
+    go t = subst Unit1 (t .2) (unit-between a b (h .held) (t .0) (f (t .0) (t .1)))
+
 -- ---- inserts
 
 pub span-new : (i : Id) (lam : ℕ) (c : RichtextChunk) (x o : OptId) → ¬ (i .peer ≡ UNKNOWN-PEER) → formed c ≡ true → roomOpt (At i) (lenOf c) ≡ true → lam + lenOf c ≤ 4294967295
-  → spanCode (withOrigins (newSpan i lam c) x o) ≡ 0
+    → spanCode (withOrigins (newSpan i lam c) x o) ≡ 0
 unfolding withOrigins newSpan realNew roomOpt
 span-new i lam c x o k f r b = span-of (withOrigins (newSpan i lam c) x o) (lenOf c) refl f (and-eq-true-iff (not (eqb (i .peer) UNKNOWN-PEER)) (roomOf i (lenOf c)) .0 r .1) b
-  (ap (λ (z : Bool). roomOpt (cond z Nothing (At i)) (lenOf c)) (ne-eqb (i .peer) UNKNOWN-PEER k) ∙ r)
+    (ap (λ (z : Bool). roomOpt (cond z Nothing (At i)) (lenOf c)) (ne-eqb (i .peer) UNKNOWN-PEER k) ∙ r)
 
 pub units-insert : (at : ℕ) (s : FugueSpan) (l : List FugueSpan) → spanCode (withOrigins s (originLeft at l) (originRight at l)) ≡ 0 → Units1 l → Units1 (insertUnits at s l)
 units-insert at s l ok f u m = go (splice-from (insert-splice at s l) u m)
@@ -97,17 +108,17 @@ units-insert at s l ok f u m = go (splice-from (insert-splice at s l) u m)
 room-next : (i : Id) (n : ℕ) → roomOpt (At i) (suc n) ≡ true → roomOpt (At (incId i 1)) n ≡ true
 unfolding roomOpt incId
 room-next i n e =
-  let t = and-eq-true-iff (not (eqb (i .peer) UNKNOWN-PEER)) (roomOf i (suc n)) .0 e in
-  let r : Room (i .counter) (suc n) = roomy (i .counter) (suc n) (t .1) in
-  let b : r .at + suc n ≤ 2147483647 = r .ends in
-  and-eq-true-iff (not (eqb (i .peer) UNKNOWN-PEER)) (room (i .counter +ℤ pos 1) n) .1
+    let t = and-eq-true-iff (not (eqb (i .peer) UNKNOWN-PEER)) (roomOf i (suc n)) .0 e in
+    let r : Room (i .counter) (suc n) = roomy (i .counter) (suc n) (t .1) in
+    let b : r .at + suc n ≤ 2147483647 = r .ends in
+    and-eq-true-iff (not (eqb (i .peer) UNKNOWN-PEER)) (room (i .counter +ℤ pos 1) n) .1
     (t .0, ap (λ (z : ℤ). room (z +ℤ pos 1) n) (r .is) ∙ (unfold room in le-leb (r .at + 1 + n) 2147483647 (omega arith)))
 
 unit-real : (u : FugueSpan) (s : Status) (d : OptStatus) (r : OptId) → Unit1 u → roomOpt r 1 ≡ true → Unit1 (withState u s d r)
 unfolding withState
 unit-real u s d r k e =
-  let o : SpanOk u = span-ok u (k .0) in
-  (span-of (withState u s d r) 1 (k .1) (o .form) (subst (λ (z : ℕ). roomOf (u .id) z ≡ true) (k .1) (o .own)) (subst (λ (z : ℕ). u .lamport + z ≤ 4294967295) (k .1) (o .lam)) e, k .1)
+    let o : SpanOk u = span-ok u (k .0) in
+    (span-of (withState u s d r) 1 (k .1) (o .form) (subst (λ (z : ℕ). roomOf (u .id) z ≡ true) (k .1) (o .own)) (subst (λ (z : ℕ). u .lamport + z ≤ 4294967295) (k .1) (o .lam)) e, k .1)
 
 unit-delete : (i : Id) (u : FugueSpan) → Unit1 u → roomOpt (At i) 1 ≡ true → Unit1 (deleteUnit i u)
 unfolding deleteUnit
@@ -126,9 +137,11 @@ units-first (v ∷ l) (suc n) i e f u m = go (activated (v .status)) m
   where
     fv : Unit1 v
     fv = f v (List·Memᴰ·head refl)
+
     two : (w : FugueSpan) (r : List FugueSpan) → Unit1 w → (Mem u r → Unit1 u) → (u ≡ w) ⊎ Mem u r → Unit1 u
     two w r k ih (inl d) = subst Unit1 (sym d) k
     two w r k ih (inr j) = ih j
+
     go : (b : Bool) → Mem u (cond b (deleteUnit i v ∷ deleteFirst l n (incId i 1)) (v ∷ deleteFirst l (suc n) i)) → (Mem u (deleteFirst l n (incId i 1)) → Unit1 u) → (Mem u (deleteFirst l (suc n) i) → Unit1 u) → Unit1 u
     go true k yes-ih no-ih = two (deleteUnit i v) (deleteFirst l n (incId i 1)) (unit-delete i v fv (roomOpt-less (At i) 1 (suc n) (omega arith) e)) yes-ih (List·Memᴰ·cases-cons k)
     go false k yes-ih no-ih = two v (deleteFirst l (suc n) i) fv no-ih (List·Memᴰ·cases-cons k)
@@ -139,6 +152,7 @@ units-delete at n i l e f u m = go (List·Memᴰ·append-cases (front l at) m)
   where
     in-l : (w : FugueSpan) → Mem w (front l at ++ behind l at) → Mem w l
     in-l w k = subst (λ (z : List FugueSpan). Mem w z) (front-behind l at) k
+
     go : Mem u (front l at) ⊎ Mem u (deleteFirst (behind l at) n i) → Unit1 u
     go (inl k) = f u (in-l u (Memᴰ·append-left (behind l at) k))
     go (inr k) = units-first (behind l at) n i e (λ (w : FugueSpan) (j : Mem w (behind l at)). f w (in-l w (Memᴰ·append-right (front l at) j))) u k
@@ -199,8 +213,8 @@ origins-of : (l us : List FugueSpan) → Joined l → ((u : FugueSpan) → Mem u
 unfolding originsNamed Joined expand
 origins-of [] us j f = refl
 origins-of (s ∷ l) us j f =
-  let k : (named (ol (Units.unitAt s 0)) us ≡ true) × (named (or (Units.unitAt s 0)) us ≡ true) = f (Units.unitAt s 0) (Memᴰ·append-left (expand l) (unit-in s 0 (len-pos (s .content) (span-ok s (j .0) .form)))) in
-  ap₂ _&&_ (ap₂ _&&_ (ap (λ (r : OptId). named r us) (sym (first-left s)) ∙ k .0) (ap (λ (r : OptId). named r us) (sym (first-right s)) ∙ k .1))
+    let k : (named (ol (Units.unitAt s 0)) us ≡ true) × (named (or (Units.unitAt s 0)) us ≡ true) = f (Units.unitAt s 0) (Memᴰ·append-left (expand l) (unit-in s 0 (len-pos (s .content) (span-ok s (j .0) .form)))) in
+    ap₂ _&&_ (ap₂ _&&_ (ap (λ (r : OptId). named r us) (sym (first-left s)) ∙ k .0) (ap (λ (r : OptId). named r us) (sym (first-right s)) ∙ k .1))
     (origins-of l us (j .1 .1) (λ (u : FugueSpan) (m : Mem u (expand l)). f u (Memᴰ·append-right (unitsOf s) m)))
 
 -- a good list of units, joined, is well formed
@@ -209,7 +223,7 @@ unfolding wellFormed
 well-joined key us g f b = ap₂ _&&_ (joined-rows (join us) (join-joined us (all-of us f)))
     (ap (λ (z : List FugueSpan). leb (length z) UNITS && (distinctIds z && originsNamed (join us) z)) (expand-join us (all-of us f))
     ∙ ap₂ _&&_ (le-leb (length us) UNITS b) (ap₂ _&&_ (distinct-of key us (g .sorted)) (origins-of (join us) us (join-joined us (all-of us f))
-        (λ (u : FugueSpan) (m : Mem u (expand (join us))). go u (subst (λ (z : List FugueSpan). Mem u z) (expand-join us (all-of us f)) m)))))
+    (λ (u : FugueSpan) (m : Mem u (expand (join us))). go u (subst (λ (z : List FugueSpan). Mem u z) (expand-join us (all-of us f)) m)))))
   where
     go : (u : FugueSpan) → Mem u us → (named (ol u) us ≡ true) × (named (or u) us ≡ true)
     go u m = (named-of (ol u) us (g .olIn u m), named-of (or u) us (g .orIn u m))

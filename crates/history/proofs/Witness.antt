@@ -1,6 +1,6 @@
 -- The premises can be met: a placeholder of two units; peer 1 inserts one unit at 1; then, not knowing of each other, peer 2 deletes two units at 0 and peer 3 inserts one
 -- at 1. Both orders of the last two are accepted and end alike.
-use Prim.Native.Nat.{ℕ, zero, suc, _+_, _<_, _≤_}
+use Prim.Native.Nat.{ℕ, _<_, _≤_}
 use mathlib.Core.Path.{_≡_, refl, sym, ap, subst, _∙_}
 use mathlib.Core.Logic.{_⊎_, inl, inr}
 use mathlib.Core.Bool.{Bool, true, false, _&&_, cond, true≢false}
@@ -12,13 +12,13 @@ use Rattle.span.specs.declared.ids.OptId.the-variants.{At}
 use Rattle.span.specs.Chunk.{chunk}
 use Rattle.span.specs.Ids.{id, roomOpt}
 use Rattle.fugue.proofs.Tests.{Test, pass, fail, eqb-test}
-use Rattle.history.specs.Edit.{Count, Version, Insert, Delete, Edit, size}
+use Rattle.history.specs.Edit.{Count, Insert, Delete, Edit, size}
 use Rattle.history.specs.Version.{countOf, below, rising, closedFor}
 use Rattle.history.specs.Arrive.{start}
 use Rattle.history.specs.Tree.{sortRank}
 use Rattle.history.specs.Valid.{actFormed, actIds}
 use Rattle.history.specs.Open.{historyOpen}
-use Rattle.history.specs.Demand.{InSet, firstOf, Uses, IdOf, Once, counted, WellFormedSet, Inside, peers, sum, Limits, After, ArrivalOrder, Whole, Promise}
+use Rattle.history.specs.Demand.{InSet, firstOf, Uses, IdOf, Once, counted, WellFormedSet, Inside, peers, sum, Limits, After, ArrivalOrder, Promise}
 use Rattle.history.proofs.Demand.{demand3}
 
 abbrev pair : ℕ → ℕ → Count
@@ -36,9 +36,6 @@ three = record { id = id 3 (pos 0); at = 1; act = Insert 5 (chunk 3 4); context 
 abbrev pub set : List Edit
 set = one ∷ two ∷ three ∷ []
 
-abbrev pub whole : Version
-whole = pair 1 1 ∷ pair 2 2 ∷ pair 3 1 ∷ []
-
 -- ---- by cases
 
 data Which (e : Edit) : Type 0 where
@@ -52,9 +49,11 @@ which e m = first (List·Memᴰ·cases-cons m)
     third : (e ≡ three) ⊎ InSet e [] → Which e
     third (inl d) = is3 d
     third (inr k) = absurd (List·Memᴰ·not-nil k)
+
     second : (e ≡ two) ⊎ InSet e (three ∷ []) → Which e
     second (inl d) = is2 d
     second (inr k) = third (List·Memᴰ·cases-cons k)
+
     first : (e ≡ one) ⊎ InSet e (two ∷ three ∷ []) → Which e
     first (inl d) = is1 d
     first (inr k) = second (List·Memᴰ·cases-cons k)
@@ -103,15 +102,19 @@ closed e f we wf = by (λ (z : Edit). closedFor (z .context) f ≡ true) (by (λ
     below1 = by (λ (z : Edit). closedFor (pair 1 1 ∷ []) z ≡ true) refl refl refl
 
 distinct : Once set
-distinct = ((λ (f : Edit) (m : InSet f (two ∷ three ∷ [])) (e : f ≡ one). after-one f e (List·Memᴰ·cases-cons m)),
-    ((λ (f : Edit) (m : InSet f (three ∷ [])) (e : f ≡ two). after-two f e (List·Memᴰ·cases-cons m)), ((λ (f : Edit) (m : InSet f []) (e : f ≡ three). List·Memᴰ·not-nil m), tt)))
+distinct = (
+  (λ (f : Edit) (m : InSet f (two ∷ three ∷ [])) (e : f ≡ one). after-one f e (List·Memᴰ·cases-cons m)),
+  ((λ (f : Edit) (m : InSet f (three ∷ [])) (e : f ≡ two). after-two f e (List·Memᴰ·cases-cons m)), ((λ (f : Edit) (m : InSet f []) (e : f ≡ three). List·Memᴰ·not-nil m), tt)),
+)
   where
     after-two : (f : Edit) → f ≡ two → (f ≡ three) ⊎ InSet f [] → ⊥
     after-two f e (inl d) = omega (arith, peer-of f two e, peer-of f three d)
     after-two f e (inr m) = List·Memᴰ·not-nil m
+
     after-one2 : (f : Edit) → f ≡ one → (f ≡ three) ⊎ InSet f [] → ⊥
     after-one2 f e (inl d) = omega (arith, peer-of f one e, peer-of f three d)
     after-one2 f e (inr m) = List·Memᴰ·not-nil m
+
     after-one : (f : Edit) → f ≡ one → (f ≡ two) ⊎ InSet f (three ∷ []) → ⊥
     after-one f e (inl d) = omega (arith, peer-of f one e, peer-of f two d)
     after-one f e (inr m) = after-one2 f e (List·Memᴰ·cases-cons m)
@@ -122,15 +125,16 @@ none-before e i h = absurd (let z : ⊥ = omega arith in z)
 well-formed : WellFormedSet set
 unfolding historyOpen
 well-formed = record {
-    formed = each (λ (e : Edit). actFormed (e .act) ≡ true) refl refl refl;
-    ids = each (λ (e : Edit). (roomOpt (At (e .id)) (size e) && actIds (e .act)) ≡ true) refl refl refl;
-    runOn = each (λ (e : Edit). (i : ℕ) → i < firstOf e → IdOf set (e .id .peer) i) (none-before one) (none-before two) (none-before three);
-    once = λ (e f : Edit) (me : InSet e set) (mf : InSet f set) (p i : ℕ) (a : Uses e p i) (b : Uses f p i). alone e f (which e me) (which f mf) (a .peer ∙ sym (b .peer));
-    noTwice = distinct;
-    pairs = each (λ (e : Edit). (rising (e .context) && counted (e .context)) ≡ true) refl refl refl;
-    within = each (λ (e : Edit). (p i : ℕ) → i < countOf (e .context) p → IdOf set p i) (λ (p i : ℕ) (h : i < 0). absurd (let z : ⊥ = omega arith in z)) covered covered;
-    closed = λ (e f : Edit) (me : InSet e set) (mf : InSet f set). closed e f (which e me) (which f mf);
-    earlier = each (λ (e : Edit). firstOf e ≤ countOf (e .context) (e .id .peer)) (omega arith) (omega arith) (omega arith) }
+  formed = each (λ (e : Edit). actFormed (e .act) ≡ true) refl refl refl;
+  ids = each (λ (e : Edit). (roomOpt (At (e .id)) (size e) && actIds (e .act)) ≡ true) refl refl refl;
+  runOn = each (λ (e : Edit). (i : ℕ) → i < firstOf e → IdOf set (e .id .peer) i) (none-before one) (none-before two) (none-before three);
+  once = λ (e f : Edit) (me : InSet e set) (mf : InSet f set) (p i : ℕ) (a : Uses e p i) (b : Uses f p i). alone e f (which e me) (which f mf) (a .peer ∙ sym (b .peer));
+  noTwice = distinct;
+  pairs = each (λ (e : Edit). (rising (e .context) && counted (e .context)) ≡ true) refl refl refl;
+  within = each (λ (e : Edit). (p i : ℕ) → i < countOf (e .context) p → IdOf set p i) (λ (p i : ℕ) (h : i < 0). absurd (let z : ⊥ = omega arith in z)) covered covered;
+  closed = λ (e f : Edit) (me : InSet e set) (mf : InSet f set). closed e f (which e me) (which f mf);
+  earlier = each (λ (e : Edit). firstOf e ≤ countOf (e .context) (e .id .peer)) (omega arith) (omega arith) (omega arith);
+}
 
 positions : Inside (start 2) (sortRank set set)
 unfolding historyOpen Inside
@@ -139,29 +143,6 @@ positions = (refl, (refl, (refl, tt)))
 limits : Limits 2 65536 65536 set
 unfolding historyOpen peers sum
 limits = record { edits = omega arith; offices = omega arith; units = omega arith; spanRoom = omega arith; targetRoom = omega arith }
-
-counts : (p : ℕ) → countOf whole p ≡ sum (λ (e : Edit). cond (eqb (e .id .peer) p) (size e) 0) set
-unfolding historyOpen sum
-counts p = go (eqb-test 1 p) (eqb-test 2 p) (eqb-test 3 p)
-  where
-    W : Bool → Bool → Bool → ℕ
-    W a b c = cond a 1 (cond b 2 (cond c 1 0))
-    T : Bool → Bool → Bool → ℕ
-    T a b c = cond a 1 0 + (cond b 2 0 + (cond c 1 0 + 0))
-    by-tests : (a b c : Bool) → eqb 1 p ≡ a → eqb 2 p ≡ b → eqb 3 p ≡ c → W a b c ≡ T a b c → W (eqb 1 p) (eqb 2 p) (eqb 3 p) ≡ T (eqb 1 p) (eqb 2 p) (eqb 3 p)
-    by-tests a b c x y z h = (λ i. W (x i) (y i) (z i)) ∙ (h ∙ sym (λ i. T (x i) (y i) (z i)))
-    go : Test (eqb 1 p) (1 ≡ p) → Test (eqb 2 p) (2 ≡ p) → Test (eqb 3 p) (3 ≡ p) → W (eqb 1 p) (eqb 2 p) (eqb 3 p) ≡ T (eqb 1 p) (eqb 2 p) (eqb 3 p)
-    go (pass a x) (pass b y) t = absurd (let z : ⊥ = omega arith in z)
-    go (pass a x) (fail b y) (pass c w) = absurd (let z : ⊥ = omega arith in z)
-    go (pass a x) (fail b y) (fail c w) = by-tests true false false a b c refl
-    go (fail a x) (pass b y) (pass c w) = absurd (let z : ⊥ = omega arith in z)
-    go (fail a x) (pass b y) (fail c w) = by-tests false true false a b c refl
-    go (fail a x) (fail b y) (pass c w) = by-tests false false true a b c refl
-    go (fail a x) (fail b y) (fail c w) = by-tests false false false a b c refl
-
-version : Whole set whole
-unfolding historyOpen
-version = record { pairs = refl; counts = counts }
 
 -- ---- two arrival orders
 
@@ -182,9 +163,18 @@ first-free : (f : Edit) → InSet f set → below [] (f .id) ≡ true → InSet 
 first-free f m h = absurd (nothing f (which f m) h)
 
 order1 : ArrivalOrder set set
-order1 = record { all = λ (e : Edit) (m : InSet e set). m; only = λ (e : Edit) (m : InSet e set). m; noTwice = distinct;
-  after = unfold After in (first-free, ((λ (f : Edit) (m : InSet f set) (h : below (pair 1 1 ∷ []) (f .id) ≡ true). List·Memᴰ·head (only-one f (which f m) h)),
-    ((λ (f : Edit) (m : InSet f set) (h : below (pair 1 1 ∷ []) (f .id) ≡ true). List·Memᴰ·tail (List·Memᴰ·head (only-one f (which f m) h))), tt))) }
+order1 = record {
+  all = λ (e : Edit) (m : InSet e set). m;
+  only = λ (e : Edit) (m : InSet e set). m;
+  noTwice = distinct;
+  after = unfold After in (
+    first-free,
+    (
+      (λ (f : Edit) (m : InSet f set) (h : below (pair 1 1 ∷ []) (f .id) ≡ true). List·Memᴰ·head (only-one f (which f m) h)),
+      ((λ (f : Edit) (m : InSet f set) (h : below (pair 1 1 ∷ []) (f .id) ≡ true). List·Memᴰ·tail (List·Memᴰ·head (only-one f (which f m) h))), tt),
+    ),
+  );
+}
 
 abbrev pub swapped : List Edit
 swapped = one ∷ three ∷ two ∷ []
@@ -200,35 +190,50 @@ swapped-in e m = first (List·Memᴰ·cases-cons m)
     third : (e ≡ two) ⊎ InSet e [] → InSet e set
     third (inl d) = List·Memᴰ·tail (List·Memᴰ·head d)
     third (inr k) = absurd (List·Memᴰ·not-nil k)
+
     second : (e ≡ three) ⊎ InSet e (two ∷ []) → InSet e set
     second (inl d) = List·Memᴰ·tail (List·Memᴰ·tail (List·Memᴰ·head d))
     second (inr k) = third (List·Memᴰ·cases-cons k)
+
     first : (e ≡ one) ⊎ InSet e (three ∷ two ∷ []) → InSet e set
     first (inl d) = List·Memᴰ·head d
     first (inr k) = second (List·Memᴰ·cases-cons k)
 
 distinct2 : Once swapped
-distinct2 = ((λ (f : Edit) (m : InSet f (three ∷ two ∷ [])) (e : f ≡ one). after-one f e (List·Memᴰ·cases-cons m)),
-    ((λ (f : Edit) (m : InSet f (two ∷ [])) (e : f ≡ three). after-three f e (List·Memᴰ·cases-cons m)), ((λ (f : Edit) (m : InSet f []) (e : f ≡ two). List·Memᴰ·not-nil m), tt)))
+distinct2 = (
+  (λ (f : Edit) (m : InSet f (three ∷ two ∷ [])) (e : f ≡ one). after-one f e (List·Memᴰ·cases-cons m)),
+  ((λ (f : Edit) (m : InSet f (two ∷ [])) (e : f ≡ three). after-three f e (List·Memᴰ·cases-cons m)), ((λ (f : Edit) (m : InSet f []) (e : f ≡ two). List·Memᴰ·not-nil m), tt)),
+)
   where
     after-three : (f : Edit) → f ≡ three → (f ≡ two) ⊎ InSet f [] → ⊥
     after-three f e (inl d) = omega (arith, peer-of f three e, peer-of f two d)
     after-three f e (inr m) = List·Memᴰ·not-nil m
+
     after-one2 : (f : Edit) → f ≡ one → (f ≡ two) ⊎ InSet f [] → ⊥
     after-one2 f e (inl d) = omega (arith, peer-of f one e, peer-of f two d)
     after-one2 f e (inr m) = List·Memᴰ·not-nil m
+
     after-one : (f : Edit) → f ≡ one → (f ≡ three) ⊎ InSet f (two ∷ []) → ⊥
     after-one f e (inl d) = omega (arith, peer-of f one e, peer-of f three d)
     after-one f e (inr m) = after-one2 f e (List·Memᴰ·cases-cons m)
 
 order2 : ArrivalOrder set swapped
-order2 = record { all = λ (e : Edit) (m : InSet e set). in-swapped e (which e m); only = swapped-in; noTwice = distinct2;
-  after = unfold After in (first-free, ((λ (f : Edit) (m : InSet f set) (h : below (pair 1 1 ∷ []) (f .id) ≡ true). List·Memᴰ·head (only-one f (which f m) h)),
-    ((λ (f : Edit) (m : InSet f set) (h : below (pair 1 1 ∷ []) (f .id) ≡ true). List·Memᴰ·tail (List·Memᴰ·head (only-one f (which f m) h))), tt))) }
+order2 = record {
+  all = λ (e : Edit) (m : InSet e set). in-swapped e (which e m);
+  only = swapped-in;
+  noTwice = distinct2;
+  after = unfold After in (
+    first-free,
+    (
+      (λ (f : Edit) (m : InSet f set) (h : below (pair 1 1 ∷ []) (f .id) ≡ true). List·Memᴰ·head (only-one f (which f m) h)),
+      ((λ (f : Edit) (m : InSet f set) (h : below (pair 1 1 ∷ []) (f .id) ≡ true). List·Memᴰ·tail (List·Memᴰ·head (only-one f (which f m) h))), tt),
+    ),
+  );
+}
 
 -- what the demand promises, of both
-pub promise1 : Promise 2 65536 65536 set set whole
-promise1 = demand3 2 65536 65536 set well-formed limits positions set order1 whole version
+pub promise1 : Promise 2 65536 65536 set set
+promise1 = demand3 2 65536 65536 set well-formed limits positions set order1
 
-pub promise2 : Promise 2 65536 65536 set swapped whole
-promise2 = demand3 2 65536 65536 set well-formed limits positions swapped order2 whole version
+pub promise2 : Promise 2 65536 65536 set swapped
+promise2 = demand3 2 65536 65536 set well-formed limits positions swapped order2

@@ -1,9 +1,9 @@
 -- Demand 3 in its own words: a set of edits, an arrival order of it, and what is promised of every such order. The theorem is proofs/Demand. Assumes nothing.
 use Prim.Native.Nat.{ℕ, suc, _+_, _<_, _≤_}
 use mathlib.Core.Path.{_≡_}
-use mathlib.Core.Bool.{Bool, true, false, _&&_, cond}
+use mathlib.Core.Bool.{Bool, true, _&&_, cond}
 use mathlib.Core.List.{List, [], _∷_, map, List·Memᴰ}
-use lib.Dec.{leb, eqb}
+use lib.Dec.{ltb, eqb}
 use lib.IntN.{pos}
 use lib.ListN.{length}
 use lib.Signed.{leZ}
@@ -16,11 +16,11 @@ use Rattle.rope.specs.Limits.{UNITS, PEERS, EDITS}
 use Rattle.rope.specs.Lists.{every, some}
 use Rattle.rope.specs.Change.{withState}
 use Rattle.fugue.specs.Tree.{walk, sortId}
-use Rattle.history.specs.Edit.{Count, Version, Act, Edit, size, History}
+use Rattle.history.specs.Edit.{Count, Version, Edit, size, History}
 use Rattle.history.specs.Version.{number, countOf, below, rising, closedFor}
 use Rattle.history.specs.Checkout.{unitsAt}
 use Rattle.history.specs.Arrive.{start}
-use Rattle.history.specs.Tree.{treeArrive, sortRank, treeOf}
+use Rattle.history.specs.Tree.{treeArrive, treeOf}
 use Rattle.history.specs.Valid.{actFormed, actIds, actLength}
 use Rattle.history.specs.Codes.{stored, inside, made, arriveCode, arriveOf, checkoutCode, checkoutOf}
 
@@ -116,10 +116,16 @@ unfoldable pub arriveAll : ℕ → ℕ → History → List Edit → History
 arriveAll spans targets h [] = h
 arriveAll spans targets h (e ∷ es) = arriveAll spans targets (arriveOf spans targets h e .1) es
 
--- the version of the whole set
-pub record Whole (S : List Edit) (v : Version) : Type 0 where
-  pub pairs : rising v && counted v ≡ true
-  pub counts : (p : ℕ) → countOf v p ≡ sum (λ (e : Edit). cond (eqb (e .id .peer) p) (size e) 0) S
+-- the version of the whole set: each office with as many counters as its edits use, peers rising
+unfoldable pub addCount : ℕ → ℕ → Version → Version
+addCount p m [] = record { peer = p; many = pos m } ∷ []
+addCount p m (k ∷ v) =
+    cond (ltb p (k .peer)) (record { peer = p; many = pos m } ∷ (k ∷ v))
+    (cond (eqb p (k .peer)) (record { peer = p; many = pos (m + number (k .many)) } ∷ v) (k ∷ addCount p m v))
+
+unfoldable pub wholeOf : List Edit → Version
+wholeOf [] = []
+wholeOf (e ∷ S) = addCount (e .id .peer) (size e) (wholeOf S)
 
 -- real ids of placeholder units are excepted
 unfoldable pub realPlain : FugueSpan → OptId
@@ -128,12 +134,13 @@ realPlain u = cond (eqb (u .id .peer) UNKNOWN-PEER) Nothing (u .«real_id»)
 unfoldable pub noReal : FugueSpan → FugueSpan
 noReal u = withState u (u .status) (u .«diff_status») (realPlain u)
 
-pub record Promise (n spans targets : ℕ) (S fs : List Edit) (v : Version) : Type 0 where
-  -- the arrival order is accepted throughout
+-- what every arrival order fs of the set comes to
+pub record Promise (n spans targets : ℕ) (S fs : List Edit) : Type 0 where
+  -- it is accepted throughout
   pub accepted : Accepted spans targets (stored (start n)) fs
   -- checked out afterwards at the whole set
-  pub checked : checkoutCode spans targets (arriveAll spans targets (stored (start n)) fs) v ≡ 0
+  pub checked : checkoutCode spans targets (arriveAll spans targets (stored (start n)) fs) (wholeOf S) ≡ 0
   -- it gives the units of the tree built from the set alone, in its order
-  pub same : map noReal (expand (checkoutOf spans targets (arriveAll spans targets (stored (start n)) fs) v .1 .list)) ≡ map noReal (unitsAt v (treeOf n S))
+  pub same : map noReal (expand (checkoutOf spans targets (arriveAll spans targets (stored (start n)) fs) (wholeOf S) .1 .list)) ≡ map noReal (unitsAt (wholeOf S) (treeOf n S))
   -- which is the walk of the tree
-  pub walked : unitsAt v (treeOf n S) ≡ walk (sortId (unitsAt v (treeOf n S)))
+  pub walked : unitsAt (wholeOf S) (treeOf n S) ≡ walk (sortId (unitsAt (wholeOf S) (treeOf n S)))

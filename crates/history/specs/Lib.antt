@@ -12,3 +12,4 @@ pub mod Script
 pub mod Rows
 pub mod Demand
 pub mod Refusals
+pub mod ByCalls
