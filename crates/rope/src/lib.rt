@@ -4,6 +4,7 @@
 pub mod check;
 pub mod find;
 pub mod insert;
+pub mod order;
 pub mod place;
 pub mod query;
 pub mod seek;
