@@ -1,29 +1,21 @@
 -- the units of a span without its diff_status, and the loop that drops it row by row
-use Prim.Native.Nat.{ℕ, zero, suc, _+_, _*_, _<_, _≤_}
+use Prim.Native.Nat.{ℕ, zero, suc, _+_, _*_, _<_}
 use mathlib.Core.Path.{_≡_, refl, sym, ap, ap₂, _∙_}
-use mathlib.Core.List.{List, [], _∷_, _++_, map}
-use native.Mathlib.Omega.{arith}
+use mathlib.Core.List.{List, [], _∷_, _++_}
 use lib.ListN.{length, drop}
-use Rattle.span.specs.declared.ids.OptId.{OptId}
 use Rattle.span.specs.declared.span.OptStatus.the-variants as Opt
 use Rattle.span.specs.declared.span.FugueSpan.{FugueSpan}
-use Rattle.span.specs.Span.{lenSpan, spanCode, idsOk, shift, leftOf, partSpan}
-use Rattle.span.specs.Units.{tab, unitAt, unitsOf, expand, join}
-use Rattle.store.specs.Row.{rows, rowAt}
+use Rattle.span.specs.Span.{lenSpan, spanCode, idsOk, shift, leftOf}
+use Rattle.span.specs.Units.{tab, unitAt, unitsOf, expand}
+use Rattle.store.specs.Row.{rowAt}
 use Rattle.rope.specs.Change.{withState, clearUnits}
 use Rattle.rope.specs.Spans.{AllOk, clearSpan}
 use Rattle.rope.specs.Streams.{Pushable, Pushed, Stream}
-use Rattle.rope.proofs.Rights.{row-drop, row-none, row-ok}
-use Rattle.rope.proofs.Streaming.{stream-start, stream-next, stream-end}
+use Rattle.rope.proofs.Streaming.{stream-row, stream-ok, stream-room, stream-next}
 
 pub clear-ok : (s : FugueSpan) → spanCode s ≡ 0 → spanCode (clearSpan s) ≡ 0
 unfolding clearSpan withState spanCode idsOk
 clear-ok s e = e
-
-clear-left : (s : FugueSpan) (k : ℕ) → leftOf (clearSpan s) k ≡ leftOf s k
-unfolding clearSpan withState leftOf
-clear-left s zero = refl
-clear-left s (suc k) = refl
 
 clear-unit : (s : FugueSpan) (k : ℕ) → clearSpan (unitAt s k) ≡ unitAt (clearSpan s) k
 unfolding clearSpan withState shift leftOf
@@ -48,12 +40,24 @@ clear-span s = clear-tab s 0 (lenSpan s)
 abbrev pub clearing : List FugueSpan → List FugueSpan
 clearing l = clearUnits (expand l)
 
-pub clear-turn : (n : ℕ) (s : List ℕ) (i : ℕ) → i < n → clearing (drop i (rows n s)) ≡ unitsOf (clearSpan (rowAt s (i * 72))) ++ clearing (drop (i + 1) (rows n s))
+clear-on : (v : FugueSpan) (l : List FugueSpan) → clearing (v ∷ l) ≡ unitsOf (clearSpan v) ++ clearing l
 unfolding expand
-clear-turn n s i h =
-    ap clearing (row-drop n s i h) ∙
-    (clear-append (unitsOf (rowAt s (i * 72))) (expand (drop (i + 1) (rows n s))) ∙
-    ap (λ (l : List FugueSpan). l ++ clearing (drop (i + 1) (rows n s))) (clear-span (rowAt s (i * 72))))
+clear-on v l = clear-append (unitsOf v) (expand l) ∙ ap (λ (r : List FugueSpan). r ++ clearing l) (clear-span v)
+
+module _ (n w i : ℕ) (l goal : List FugueSpan) (s : List ℕ) (v : Stream n w i l goal clearing s) (ok : AllOk l) (h : i < n) (y : FugueSpan) (e : y ≡ clearSpan (rowAt s (i * 72))) where
+  fine : spanCode y ≡ 0
+  fine = ap spanCode e ∙ clear-ok (rowAt s (i * 72)) (stream-ok n w i l goal clearing s v h ok)
+
+  pub clear-room : Pushable w y s
+  clear-room = stream-room n w i l goal clearing s v h y fine
+
+  pub clear-next : (k : ℕ) (t : List ℕ) → length t ≡ length s → Pushed w y k s t → Stream n k (i + 1) l goal clearing t
+  clear-next k t len p =
+      stream-next n w i l goal clearing s v k y t len h fine
+      (ap clearing (stream-row n w i l goal clearing s v h) ∙
+      (clear-on (rowAt s (i * 72)) (drop (i + 1) l) ∙
+      ap (λ (x : FugueSpan). unitsOf x ++ clearing (drop (i + 1) l)) (sym e)))
+      p
 
 pub clear-none : clearing [] ≡ []
 unfolding expand clearUnits
