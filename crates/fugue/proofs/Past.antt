@@ -6,13 +6,14 @@ use mathlib.Core.Bool.{Bool, true, false, not, _&&_, cond, true≢false}
 use mathlib.Core.List.{List, [], _∷_, List·Memᴰ·head, List·Memᴰ·tail}
 use lib.IntN.{pos}
 use native.Mathlib.Omega.{arith}
-use Rattle.span.specs.declared.ids.Id.{Id}
 use Rattle.span.specs.declared.ids.OptId.{OptId}
 use Rattle.span.specs.declared.ids.OptId.the-variants.{Nothing, At}
 use Rattle.span.specs.declared.span.FugueSpan.{FugueSpan}
 use Rattle.span.specs.Status.{activated, eqZ}
 use Rattle.rope.specs.Place.{front, behind, lastId, firstPast, originLeft, originRight, shown}
-use Rattle.fugue.specs.Tree.{ref, keepIf}
+use Rattle.rope.specs.Lists.{keepIf}
+use Rattle.rope.specs.Change.{firstShown, taken}
+use Rattle.fugue.specs.Tree.{ref}
 use Rattle.fugue.proofs.ScanPlace.{Mem}
 
 abbrev pub notFuture : FugueSpan → Bool
@@ -27,12 +28,6 @@ unfoldable pub nth : List FugueSpan → ℕ → OptId
 nth [] n = Nothing
 nth (v ∷ l) zero = cond (activated (v .status)) (ref v) (nth l zero)
 nth (v ∷ l) (suc n) = nth l (cond (activated (v .status)) n (suc n))
-
--- the first n visible units
-unfoldable pub visibles : List FugueSpan → ℕ → List Id
-visibles [] n = []
-visibles (v ∷ l) zero = []
-visibles (v ∷ l) (suc n) = cond (activated (v .status)) (v .id ∷ visibles l n) (visibles l (suc n))
 
 pub front-zero : (l : List FugueSpan) → front l zero ≡ []
 unfolding front
@@ -55,7 +50,7 @@ nth-cons v l zero = refl
 nth-cons v l (suc n) = refl
 
 last-step : (b : Bool) (v : FugueSpan) (l : List FugueSpan) (n : ℕ) → suc n ≤ cond b (suc (shown l)) (shown l)
-    → ((n : ℕ) (r : OptId) → suc n ≤ shown l → lastId r (front l (suc n)) ≡ nth l n) → lastId (ref v) (front l (cond b n (suc n))) ≡ nthStep b v l n
+  → ((n : ℕ) (r : OptId) → suc n ≤ shown l → lastId r (front l (suc n)) ≡ nth l n) → lastId (ref v) (front l (cond b n (suc n))) ≡ nthStep b v l n
 unfolding nthStep lastId
 last-step true v l zero h ih = ap (lastId (ref v)) (front-zero l)
 last-step true v l (suc n) h ih = ih n (ref v) (omega arith)
@@ -92,11 +87,9 @@ nth-past (v ∷ l) n = go (v .status .future) refl n (nth-past l)
     same false zero ih = unfold nthStep in ih zero
     same true (suc n) ih = unfold nthStep in ih n
     same false (suc n) ih = unfold nthStep in ih (suc n)
-
     skip : (n : ℕ) → nthStep false v l n ≡ nth l n
     skip zero = unfold nthStep in refl
     skip (suc n) = unfold nthStep in refl
-
     go : (b : Bool) → v .status .future ≡ b → (n : ℕ) → ((n : ℕ) → nth l n ≡ nth (pastOf l) n) → nth (v ∷ l) n ≡ nth (cond (not b) (v ∷ pastOf l) (pastOf l)) n
     go true e n ih = nth-cons v l n ∙ (ap (λ (b : Bool). nthStep b v l n) (hidden v e) ∙ (skip n ∙ ih n))
     go false e n ih = nth-cons v l n ∙ (same (activated (v .status)) n ih ∙ sym (nth-cons v (pastOf l) n))
@@ -132,28 +125,28 @@ pub originRight-past : (l : List FugueSpan) (n : ℕ) → originRight n l ≡ or
 unfolding originRight
 originRight-past l n = firstPast-past (behind l n) ∙ ap firstPast (behind-past l n)
 
-pub visibles-past : (l : List FugueSpan) (n : ℕ) → visibles l n ≡ visibles (pastOf l) n
-unfolding visibles keepIf
-visibles-past [] n = refl
-visibles-past (v ∷ l) zero = go (not (v .status .future))
+pub firstShown-past : (l : List FugueSpan) (n : ℕ) → firstShown l n ≡ firstShown (pastOf l) n
+unfolding firstShown keepIf
+firstShown-past [] n = refl
+firstShown-past (v ∷ l) zero = go (not (v .status .future))
   where
-    z : (l : List FugueSpan) → [] ≡ visibles l zero
+    z : (l : List FugueSpan) → [] ≡ firstShown l zero
     z [] = refl
     z (u ∷ l) = refl
-
-    go : (b : Bool) → [] ≡ visibles (cond b (v ∷ pastOf l) (pastOf l)) zero
+    go : (b : Bool) → [] ≡ firstShown (cond b (v ∷ pastOf l) (pastOf l)) zero
     go true = refl
     go false = z (pastOf l)
-visibles-past (v ∷ l) (suc n) = go (v .status .future) refl (visibles-past l)
+firstShown-past (v ∷ l) (suc n) = go (v .status .future) refl (firstShown-past l)
   where
-    go : (b : Bool) → v .status .future ≡ b → ((n : ℕ) → visibles l n ≡ visibles (pastOf l) n)
-        → cond (activated (v .status)) (v .id ∷ visibles l n) (visibles l (suc n)) ≡ visibles (cond (not b) (v ∷ pastOf l) (pastOf l)) (suc n)
-    go true e ih = ap (λ (b : Bool). cond b (v .id ∷ visibles l n) (visibles l (suc n))) (hidden v e) ∙ ih (suc n)
-    go false e ih = ap₂ (λ (a b : List Id). cond (activated (v .status)) (v .id ∷ a) b) (ih n) (ih (suc n))
+    go : (b : Bool) → v .status .future ≡ b → ((n : ℕ) → firstShown l n ≡ firstShown (pastOf l) n)
+      → cond (activated (v .status)) (v ∷ firstShown l n) (firstShown l (suc n)) ≡ firstShown (cond (not b) (v ∷ pastOf l) (pastOf l)) (suc n)
+    go true e ih = ap (λ (b : Bool). cond b (v ∷ firstShown l n) (firstShown l (suc n))) (hidden v e) ∙ ih (suc n)
+    go false e ih = ap₂ (λ (a b : List FugueSpan). cond (activated (v .status)) (v ∷ a) b) (ih n) (ih (suc n))
 
 -- L6.4: the targets of a delete
-pub targets-past : (l : List FugueSpan) (n k : ℕ) → visibles (behind l n) k ≡ visibles (behind (pastOf l) n) k
-targets-past l n k = visibles-past (behind l n) k ∙ ap (λ (z : List FugueSpan). visibles z k) (behind-past l n)
+pub taken-past : (l : List FugueSpan) (n k : ℕ) → taken n k l ≡ taken n k (pastOf l)
+unfolding taken
+taken-past l n k = firstShown-past (behind l n) k ∙ ap (λ (z : List FugueSpan). firstShown z k) (behind-past l n)
 
 -- the visible unit before the position is a unit of the list that is not future
 nth-in : (l : List FugueSpan) (n : ℕ) → suc n ≤ shown l → (w : FugueSpan) × Mem w l × (ref w ≡ nth l n) × (w .status .future ≡ false)
@@ -167,18 +160,14 @@ nth-in (v ∷ l) n h = go (activated (v .status)) refl n h (nth-in l)
         at-future : (b : Bool) → v .status .future ≡ b → v .status .future ≡ false
         at-future true d = absurd (true≢false (sym e ∙ hidden v d))
         at-future false d = d
-
     R : ℕ → Type 0
     R n = (w : FugueSpan) × Mem w (v ∷ l) × (ref w ≡ nth (v ∷ l) n) × (w .status .future ≡ false)
-
     up : (n m : ℕ) → nth l m ≡ nth (v ∷ l) n → (w : FugueSpan) × Mem w l × (ref w ≡ nth l m) × (w .status .future ≡ false) → R n
     up n m e t = (t .0, List·Memᴰ·tail (t .1), t .2 ∙ e, t .3)
-
     step : (b : Bool) (n : ℕ) → activated (v .status) ≡ b → nth (v ∷ l) n ≡ nthStep b v l n
     step b n e = nth-cons v l n ∙ ap (λ (b : Bool). nthStep b v l n) e
-
     go : (b : Bool) → activated (v .status) ≡ b → (n : ℕ) → suc n ≤ cond b (suc (shown l)) (shown l)
-        → ((n : ℕ) → suc n ≤ shown l → (w : FugueSpan) × Mem w l × (ref w ≡ nth l n) × (w .status .future ≡ false)) → R n
+      → ((n : ℕ) → suc n ≤ shown l → (w : FugueSpan) × Mem w l × (ref w ≡ nth l n) × (w .status .future ≡ false)) → R n
     go true e zero h ih = (v, List·Memᴰ·head refl, unfold nthStep in sym (step true zero e), seen e)
     go true e (suc n) h ih = up (suc n) n (unfold nthStep in sym (step true (suc n) e)) (ih n (omega arith))
     go false e zero h ih = up zero zero (unfold nthStep in sym (step false zero e)) (ih zero h)
