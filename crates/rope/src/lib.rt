@@ -3,6 +3,7 @@
 // first, and every other refusal before they write. Inner functions take the rows from the header on, and require what the entries asked.
 pub mod check;
 pub mod clear;
+pub mod edit;
 pub mod find;
 pub mod insert;
 pub mod place;
