@@ -1,11 +1,11 @@
 -- the entries insert and clear_diff_status, step by step: what each step may ask, and what each way out leaves
-use Prim.Native.Nat.{ℕ, zero, suc, _+_, _-_, _*_, _<_, _≤_}
-use mathlib.Core.Path.{_≡_, refl, sym, ap, ap₂, subst, _∙_}
-use mathlib.Core.Bool.{Bool, true, false, cond, true≢false, false≢true}
-use mathlib.Core.List.{List, [], _∷_, _++_}
+use Prim.Native.Nat.{ℕ, _+_, _-_, _*_, _<_, _≤_}
+use mathlib.Core.Path.{_≡_, refl, sym, ap, subst, _∙_}
+use mathlib.Core.Bool.{Bool, true, false, cond, true≢false}
+use mathlib.Core.List.{List}
 use native.Mathlib.Omega.{arith}
 use lib.Dec.{eqb}
-use lib.ListN.{length, take, drop}
+use lib.ListN.{length, drop}
 use borrow.Author.Tests.{eqb-true, eqb-false}
 use Rattle.words.specs.Le.{bytesOf, put}
 use Rattle.span.specs.declared.span.FugueSpan.{FugueSpan}
@@ -15,17 +15,16 @@ use Rattle.span.specs.Answer.{answer}
 use Rattle.span.specs.Span.{spanCode}
 use Rattle.span.specs.Units.{expand, join}
 use Rattle.store.specs.Row.{rows}
-use Rattle.store.proofs.Laws.{length-rows}
 use Rattle.rope.specs.declared.insert.Plan.{Plan}
 use Rattle.rope.specs.declared.insert.Plan.the-variants.{Join, Own, Cut}
 use Rattle.rope.specs.Place.{insertUnits}
 use Rattle.rope.specs.Change.{clearUnits}
 use Rattle.rope.specs.Store.{count, room, spansOf, wellFormed, isState, stateCode}
-use Rattle.rope.specs.Codes.{unless, insertCode}
+use Rattle.rope.specs.Codes.{unless, kept, insertCode, insertOf, askCode, clearOf}
 use Rattle.rope.specs.Spans.{AllOk, Stored, Ready}
 use Rattle.rope.specs.Plans.{planned, planRows, Can, Planned}
 use Rattle.rope.specs.Edits.{Written, Edited, insertNumber, insertList, insertFirst, Asked, Writable}
-use Rattle.rope.proofs.WellFormed.{Formed, formed-of}
+use Rattle.rope.proofs.WellFormed.{formed-of}
 use Rattle.rope.proofs.States.{part, part-rest, part-length, part-spans, room-most, room-long, State, state-of, code-state, code-none}
 use Rattle.rope.proofs.Planning.{plan-length}
 use Rattle.rope.proofs.Editing.{back, written-back, edited-refused, edited-done, edited-as}
@@ -173,7 +172,7 @@ module _ (s : List ℕ) (at : ℕ) (x : FugueSpan) where
   unfolding insertNumber
   number-none e = sym (ap (λ (b : Bool). unless b 15 (insertCode (room s) (spansOf s) at x)) e)
 
-  number-state : isState s ≡ true → insertCode (room s) (spansOf s) at x ≡ insertNumber s at x
+  pub number-state : isState s ≡ true → insertCode (room s) (spansOf s) at x ≡ insertNumber s at x
   unfolding insertNumber
   number-state e = sym (ap (λ (b : Bool). unless b 15 (insertCode (room s) (spansOf s) at x)) e)
 
@@ -197,6 +196,13 @@ module _ (s : List ℕ) (at : ℕ) (x : FugueSpan) where
         edited-as (insertCode (room s) (spansOf s) at y) (insertNumber s at x) (insertList s at y) (insertList s at x) r s t
         (ap (insertCode (room s) (spansOf s) at) g ∙ number-state st) (ap (insertList s at) g) v
 
+  -- on a well formed store: the number and the list of the call on spans
+  pub insert-is : isState s ≡ true → (r : ℕ) (t : List ℕ) → Edited (insertNumber s at x) (insertList s at x) r s t → (r ≡ insertOf (room s) (spansOf s) at x .0) × (spansOf t ≡ insertOf (room s) (spansOf s) at x .1)
+  unfolding insertOf
+  insert-is st r t v =
+      let e = sym (number-state st) in
+      (v .number ∙ e, v .list ∙ ap (λ (c : ℕ). kept c (insertList s at x) (spansOf s)) e)
+
 -- ---- clear_diff_status
 
 module _ (s : List ℕ) where
@@ -211,3 +217,9 @@ module _ (s : List ℕ) where
       edited-done (stateCode s) clear 0 s t refl (code-state s st)
       (written-back s q t k clear (state-head s st) (omega (arith, e .1, state-few s st n en)) et
       (e .0 ∙ ap (λ (l : List FugueSpan). join (clearUnits (expand l))) (rows-are s st n en)))
+
+  pub clear-is : isState s ≡ true → (r : ℕ) (t : List ℕ) → Edited (stateCode s) clear r s t → (r ≡ clearOf (spansOf s) .0) × (spansOf t ≡ clearOf (spansOf s) .1)
+  unfolding clearOf askCode
+  clear-is st r t v =
+      let e : stateCode s ≡ unless (wellFormed (spansOf s)) 15 0 = code-state s st ∙ sym (ap (λ (b : Bool). unless b 15 0) (state-formed s st (count s) refl)) in
+      (v .number ∙ e, v .list ∙ ap (λ (c : ℕ). kept c clear (spansOf s)) e)

@@ -1,5 +1,5 @@
 -- a list written again in place: the start, a span pushed on, a row done, the end
-use Prim.Native.Nat.{ℕ, zero, suc, _+_, _-_, _*_, _<_, _≤_}
+use Prim.Native.Nat.{ℕ, _+_, _-_, _*_, _<_, _≤_}
 use mathlib.Core.Path.{_≡_, refl, sym, ap, ap₂, subst, _∙_}
 use mathlib.Core.Bool.{true, false}
 use mathlib.Core.List.{List, [], _∷_, _++_, append-assoc, append-nil}
@@ -23,7 +23,7 @@ use Rattle.rope.proofs.Twice.{rows-take}
 
 -- ---- one span pushed on to a joined list
 
-units-append : (us vs : List FugueSpan) → AllUnits us → AllUnits vs → AllUnits (us ++ vs)
+pub units-append : (us vs : List FugueSpan) → AllUnits us → AllUnits vs → AllUnits (us ++ vs)
 unfolding AllUnits
 units-append [] vs a b = b
 units-append (u ∷ us) vs a b = (a .0, (a .1 .0, units-append us vs (a .1 .1) b))

@@ -1,17 +1,10 @@
 use Rattle.rope.proofs.Editing.{back-long}
 use Rattle.rope.proofs.Entering.{state-head, state-ok, clear-refused, clear-done}
 use borrow.Author.Tests.{not-true, not-false}
-use native.Mathlib.Omega.{arith}
-use mathlib.Core.Path.{_≡_, sym, _∙_}
+use mathlib.Core.Path.{sym, _∙_}
 use borrow.Author.Needs.{needs}
 use Rattle.rope.proofs.edit.clear_diff_status.Statement.{statement}
 use Rattle.rope.proofs.edit.clear_diff_status.Tie as tie
-use Rattle.rope.proofs.edit.clear_diff_status.Reads as reads
-use Rattle.rope.proofs.edit.clear_diff_status.Lts as lts
-use Rattle.rope.proofs.clear.clear_rows.Reads as clear-rows-reads
-use Rattle.rope.proofs.state.check.Reads as check-reads
-use Rattle.store.proofs.header.count.Reads as count-reads
-use Rattle.store.proofs.header.set_count.Reads as set-count-reads
 
 check-requires : tie.Need-check-requires
 check-requires c κs = search needs

@@ -2,11 +2,6 @@ use Rattle.rope.proofs.Entering.{write-asks, write-done}
 use borrow.Author.Needs.{needs}
 use Rattle.rope.proofs.edit.write_plan.Statement.{statement}
 use Rattle.rope.proofs.edit.write_plan.Tie as tie
-use Rattle.rope.proofs.edit.write_plan.Reads as reads
-use Rattle.rope.proofs.edit.write_plan.Lts as lts
-use Rattle.rope.proofs.insert.Plan.rows.Reads as rows-reads
-use Rattle.rope.proofs.insert.perform.Reads as perform-reads
-use Rattle.store.proofs.header.set_count.Reads as set-count-reads
 
 sub-perform : tie.Need-sub-perform
 sub-perform c = search needs
