@@ -8,3 +8,11 @@ UNITS = 65536
 -- the rows of room that count: a longer room counts as that long
 abbrev pub ROWS : ℕ
 ROWS = 65536
+
+-- the peers that have edits in a history
+abbrev pub PEERS : ℕ
+PEERS = 16
+
+-- the edits of a history
+abbrev pub EDITS : ℕ
+EDITS = 2000
