@@ -4,3 +4,4 @@ pub mod find;
 pub mod insert;
 pub mod place;
 pub mod seek;
+pub mod stream;
