@@ -1,4 +1,5 @@
 // The rope (000, crdt_rope.rs) over a list of spans in lent bytes: search, positions, placement, insert.
+pub mod apply;
 pub mod change;
 pub mod check;
 pub mod find;
