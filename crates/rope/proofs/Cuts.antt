@@ -136,7 +136,7 @@ module _ (u : Update) (s : FugueSpan) where
   unfolding updateCut
   cut-by t e = ap (λ (b : Bool). cond b (partFrom u (s .id .counter) (lenSpan s)) (part 0 0)) (sym e)
 
-  update-most : (updateCut u s .from ≤ lenSpan s) × (updateCut u s .to ≤ lenSpan s)
+  pub update-most : (updateCut u s .from ≤ lenSpan s) × (updateCut u s .to ≤ lenSpan s)
   update-most =
       subst (λ (p : Part). (p .from ≤ lenSpan s) × (p .to ≤ lenSpan s)) (cut-by (eqb (s .id .peer) (u .peer)) refl) (go (eqb (s .id .peer) (u .peer)))
     where

@@ -1,5 +1,5 @@
 -- a delete, span by span, is the delete on units; and it cuts at most twice
-use Prim.Native.Nat.{ℕ, zero, suc, _+_, _-_, _<_, _≤_, min}
+use Prim.Native.Nat.{ℕ, zero, suc, _+_, _-_, _*_, _<_, _≤_, min}
 use mathlib.Core.Path.{_≡_, refl, sym, ap, ap₂, subst, _∙_}
 use mathlib.Core.Bool.{Bool, true, false, cond}
 use mathlib.Core.List.{List, [], _∷_, _++_, append-assoc, append-nil}
@@ -16,7 +16,11 @@ use Rattle.span.specs.Ids.{incId, incOpt}
 use Rattle.span.proofs.IdsLaws.{inc-zero, inc-inc}
 use Rattle.span.specs.Status.{activated}
 use Rattle.span.specs.Span.{lenSpan, spanCode, shift, leftOf, partSpan, sliceSpanCode, activeLen}
-use Rattle.span.specs.Units.{tab, unitAt, unitsOf, expand}
+use Rattle.span.specs.Units.{tab, unitAt, unitsOf, expand, join}
+use Rattle.span.proofs.SpanLaws.{span-ok}
+use Rattle.span.proofs.Views.{len-pos}
+use Rattle.store.specs.Row.{rows}
+use Rattle.store.proofs.Laws.{length-rows}
 use Rattle.span.proofs.ListLaws.{tab-add}
 use Rattle.span.proofs.UnitLaws.{unit-part, part-length}
 use Rattle.span.proofs.Unique.{in-range}
@@ -28,8 +32,8 @@ use Rattle.rope.specs.declared.change.Part.{Part}
 use Rattle.rope.specs.Place.{front, behind}
 use Rattle.rope.specs.Spans.{AllOk}
 use Rattle.rope.specs.Change.{withState, orReal, deleteUnit, deleteFirst, deleteUnits}
-use Rattle.rope.specs.Pieces.{part, deleteCut, tookOf, deleteAfter, CanDelete, cutOf, afterOf, changeSpan, partOf, changedOf, piecesOf, allPieces}
-use Rattle.rope.specs.Applies.{Fit, AllFit}
+use Rattle.rope.specs.Pieces.{part, deleteCut, tookOf, deleteAfter, CanDelete, CanCut, CanChange, cutOf, afterOf, changeSpan, partOf, changedOf, piecesOf, allPieces}
+use Rattle.rope.specs.Applies.{Fit, AllFit, Applies, Deletes}
 use Rattle.rope.proofs.Offsets.{unit-status}
 use Rattle.rope.proofs.Seeks.{front-zero, behind-zero, front-in, behind-in, front-vis, behind-vis, front-inv, behind-inv, active-is, active-most}
 use Rattle.rope.proofs.Inserts.{part-units}
@@ -320,3 +324,142 @@ delete-law d [] ok = refl
 delete-law d (s ∷ l) ok =
     expand-append (piecesOf (Ch.Delete d) s) (allPieces (Ch.Delete (deleteAfter d s)) l) ∙
     (ap (λ (u : List FugueSpan). expand (piecesOf (Ch.Delete d) s) ++ u) (delete-law (deleteAfter d s) l (ok .1)) ∙ span-law d s (ok .0) l)
+
+-- ---- a delete can be made, and cuts at most twice
+
+fit-delete : (d : Delete) (s : FugueSpan) → CanDelete d → spanCode s ≡ 0 → Fit (Ch.Delete d) s
+unfolding CanCut CanChange cutOf shift
+fit-delete d s c ok = record { can = c; fine = ok; able = λ h. cut-seen d s h }
+
+pub delete-fits : (d : Delete) (l : List FugueSpan) → CanDelete d → AllOk l → AllFit (Ch.Delete d) l
+unfolding AllFit AllOk afterOf
+delete-fits d [] c ok = tt
+delete-fits d (s ∷ l) c ok = (fit-delete d s c (ok .0), delete-fits (deleteAfter d s) l (can-after d s c) (ok .1))
+
+part-size : (s : FugueSpan) (i j : ℕ) → length (partOf s i j) ≡ min 1 (j - i)
+part-size s i j = go (lt-or i j)
+  where
+    go : (i < j) ⊎ (j ≤ i) → length (partOf s i j) ≡ min 1 (j - i)
+    go (inl h) = ap length (part-some s i j h) ∙ (let z : 1 ≡ min 1 (j - i) = omega arith in z)
+    go (inr h) = ap length (part-none s i j h) ∙ (let z : 0 ≡ min 1 (j - i) = omega arith in z)
+
+changed-size : (e : Change) (s : FugueSpan) (i j : ℕ) → length (changedOf e s i j) ≡ min 1 (j - i)
+changed-size e s i j = go (lt-or i j)
+  where
+    go : (i < j) ⊎ (j ≤ i) → length (changedOf e s i j) ≡ min 1 (j - i)
+    go (inl h) = ap length (changed-some s i j e h) ∙ (let z : 1 ≡ min 1 (j - i) = omega arith in z)
+    go (inr h) = ap length (changed-none s i j e h) ∙ (let z : 0 ≡ min 1 (j - i) = omega arith in z)
+
+pub pieces-size : (e : Change) (s : FugueSpan) → length (piecesOf e s) ≡ min 1 (cutOf e s .from) + (min 1 (cutOf e s .to - cutOf e s .from) + min 1 (lenSpan s - cutOf e s .to))
+unfolding piecesOf
+pieces-size e s =
+    length-append (partOf s 0 (cutOf e s .from)) (changedOf e s (cutOf e s .from) (cutOf e s .to) ++ partOf s (cutOf e s .to) (lenSpan s)) ∙
+    ap₂ (λ (a b : ℕ). a + b) (part-size s 0 (cutOf e s .from) ∙ ap (min 1) (let z : cutOf e s .from - 0 ≡ cutOf e s .from = omega arith in z))
+    (length-append (changedOf e s (cutOf e s .from) (cutOf e s .to)) (partOf s (cutOf e s .to) (lenSpan s)) ∙
+    ap₂ (λ (a b : ℕ). a + b) (changed-size e s (cutOf e s .from) (cutOf e s .to)) (part-size s (cutOf e s .to) (lenSpan s)))
+
+-- a cut in a span uses up what cuts it
+less : (x y : ℕ) → x ≤ y → min 1 x ≤ min 1 y
+less x y h = omega arith
+
+none : (x : ℕ) → x ≡ 0 → min 1 x ≡ 0
+none x h = omega arith
+
+once : (x : ℕ) → min 1 x ≤ 1
+once x = omega arith
+
+full : (x : ℕ) → 0 < x → min 1 x ≡ 1
+full x h = omega arith
+
+module _ (at len v n : ℕ) where
+  abbrev f : ℕ
+  f = min at v
+
+  abbrev t : ℕ
+  t = min (at + len) v
+
+  abbrev bound : Type 0
+  bound = min 1 f + (min 1 (t - f) + min 1 (n - t)) + (min 1 (at - f) + min 1 (len - (t - f))) ≤ 1 + (min 1 at + min 1 len)
+
+  at-less : min 1 (at - f) ≤ min 1 at
+  at-less = less (at - f) at (omega arith)
+
+  len-less : min 1 (len - (t - f)) ≤ min 1 len
+  len-less = less (len - (t - f)) len (omega arith)
+
+  hid : v ≡ 0 → bound
+  hid e =
+      add (min 1 f) (min 1 (t - f)) (min 1 (n - t)) (min 1 (at - f)) (min 1 (len - (t - f))) (min 1 at) (min 1 len)
+      (none f (omega arith)) (none (t - f) (omega arith)) (once (n - t)) at-less len-less
+    where
+      add : (a b c d e p q : ℕ) → a ≡ 0 → b ≡ 0 → c ≤ 1 → d ≤ p → e ≤ q → a + (b + c) + (d + e) ≤ 1 + (p + q)
+      add a b c d e p q h1 h2 h3 h4 h5 = omega arith
+
+  behind-it : v ≡ n → n ≤ at → bound
+  behind-it e h =
+      add (min 1 f) (min 1 (t - f)) (min 1 (n - t)) (min 1 (at - f)) (min 1 (len - (t - f))) (min 1 at) (min 1 len)
+      (once f) (none (t - f) (omega arith)) (none (n - t) (omega arith)) at-less len-less
+    where
+      add : (a b c d e p q : ℕ) → a ≤ 1 → b ≡ 0 → c ≡ 0 → d ≤ p → e ≤ q → a + (b + c) + (d + e) ≤ 1 + (p + q)
+      add a b c d e p q h1 h2 h3 h4 h5 = omega arith
+
+  within : v ≡ n → at < n → at + len ≤ n → bound
+  within e h k =
+      add (min 1 f) (min 1 (t - f)) (min 1 (n - t)) (min 1 (at - f)) (min 1 (len - (t - f))) (min 1 at) (min 1 len)
+      (less f at (omega arith)) (less (t - f) len (omega arith)) (once (n - t)) (none (at - f) (omega arith)) (none (len - (t - f)) (omega arith))
+    where
+      add : (a b c d e p q : ℕ) → a ≤ p → b ≤ q → c ≤ 1 → d ≡ 0 → e ≡ 0 → a + (b + c) + (d + e) ≤ 1 + (p + q)
+      add a b c d e p q h1 h2 h3 h4 h5 = omega arith
+
+  past-it : v ≡ n → at < n → n ≤ at + len → bound
+  past-it e h k =
+      add (min 1 f) (min 1 (t - f)) (min 1 (n - t)) (min 1 (at - f)) (min 1 (len - (t - f))) (min 1 at) (min 1 len)
+      (less f at (omega arith)) (once (t - f)) (none (n - t) (omega arith)) (none (at - f) (omega arith)) (once (len - (t - f))) (full len (omega arith))
+    where
+      add : (a b c d e p q : ℕ) → a ≤ p → b ≤ 1 → c ≡ 0 → d ≡ 0 → e ≤ 1 → q ≡ 1 → a + (b + c) + (d + e) ≤ 1 + (p + q)
+      add a b c d e p q h1 h2 h3 h4 h5 h6 = omega arith
+
+  cut-once : (v ≡ n) ⊎ (v ≡ 0) → bound
+  cut-once (inl e) = pick (lt-or at n)
+    where
+      pick : (at < n) ⊎ (n ≤ at) → bound
+      pick (inl h) = side (lt-or n (at + len))
+        where
+          side : (n < at + len) ⊎ (at + len ≤ n) → bound
+          side (inl k) = past-it e h (omega arith)
+          side (inr k) = within e h k
+      pick (inr h) = behind-it e h
+  cut-once (inr e) = hid e
+
+span-cuts : (d : Delete) (s : FugueSpan) → spanCode s ≡ 0 → length (piecesOf (Ch.Delete d) s) + (min 1 (deleteAfter d s .at) + min 1 (deleteAfter d s .len)) ≤ 1 + (min 1 (d .at) + min 1 (d .len))
+unfolding deleteAfter tookOf deleteCut cutOf
+span-cuts d s ok =
+    let z = pieces-size (Ch.Delete d) s in
+    let y = cut-once (d .at) (d .len) (activeLen s) (lenSpan s) (side (activated (s .status)) refl) in
+    subst (λ (k : ℕ). k + (min 1 (deleteAfter d s .at) + min 1 (deleteAfter d s .len)) ≤ 1 + (min 1 (d .at) + min 1 (d .len))) (sym z) y
+  where
+    side : (t : Bool) → activated (s .status) ≡ t → (activeLen s ≡ lenSpan s) ⊎ (activeLen s ≡ 0)
+    side true e = inl (active-is s true e)
+    side false e = inr (active-is s false e)
+
+few-cuts : (d : Delete) (l : List FugueSpan) → AllOk l → length (allPieces (Ch.Delete d) l) ≤ length l + (min 1 (d .at) + min 1 (d .len))
+unfolding AllOk allPieces afterOf
+few-cuts d [] ok = omega arith
+few-cuts d (s ∷ l) ok =
+    let a = span-cuts d s (ok .0) in
+    let b = few-cuts (deleteAfter d s) l (ok .1) in
+    let e : length (piecesOf (Ch.Delete d) s ++ allPieces (Ch.Delete (deleteAfter d s)) l) ≡ length (piecesOf (Ch.Delete d) s) + length (allPieces (Ch.Delete (deleteAfter d s)) l) = length-append (piecesOf (Ch.Delete d) s) (allPieces (Ch.Delete (deleteAfter d s)) l) in
+    omega (arith, a, b, e)
+
+pub delete-cuts : (d : Delete) (l : List FugueSpan) → AllOk l → length (allPieces (Ch.Delete d) l) ≤ length l + 2
+delete-cuts d l ok = omega (arith, few-cuts d l ok)
+
+pub deletes : (n at len : ℕ) (start : Id) (s : List ℕ) → Deletes n at len start s → Applies (Ch.Delete (record { at = at; len = len; start = start })) n s
+deletes n at len start s w =
+    let d : Delete = record { at = at; len = len; start = start } in
+    record {
+      long = w .long;
+      fit = delete-fits d (rows n s) (record { fits = w .fits; room = w .ids }) (w .each);
+      cuts = omega (arith, delete-cuts d (rows n s) (w .each), length-rows n s);
+      room = subst (λ (l : List FugueSpan). length (join l) * 72 ≤ length s) (sym (delete-law d (rows n s) (w .each))) (w .room);
+    }

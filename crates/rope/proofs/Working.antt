@@ -163,6 +163,17 @@ join-some (u ∷ us) h = go (join us)
         pick true = omega arith
         pick false = omega arith
 
+-- a row leaves rows that wait
+pub grown-some : (e : Change) (x : FugueSpan) → Fit e x → (m k : ℕ) (s t : List ℕ) → Grown m (piecesOf e x) k s t → 0 < k
+grown-some e x f m k s t g =
+    let P = piecesOf e x in
+    let a : k ≡ length (join (expand (rows m s) ++ expand P)) = sym (length-rows k t) ∙ ap length (g .list) in
+    let b = few-rows P (pieces-fine e x f) in
+    let d = pieces-some e x (f .fine) in
+    let z : length (expand (rows m s) ++ expand P) ≡ length (expand (rows m s)) + length (expand P) = length-append (expand (rows m s)) (expand P) in
+    let y = join-some (expand (rows m s) ++ expand P) (omega (arith, b, d, z)) in
+    omega (arith, a, y)
+
 -- ---- between two rows
 
 pub record Work (e : Change) (n : ℕ) (s0 : List ℕ) (left : Change) (i w m : ℕ) (s q : List ℕ) : Type 0 where
@@ -250,13 +261,7 @@ module _ (e : Change) (n : ℕ) (s0 : List ℕ) (left : Change) (i w m : ℕ) (s
       list = mv .list ∙ ap (λ (l : List FugueSpan). rows w s ++ l) (g .list)
 
       pub waits : 0 < m2
-      waits =
-          let a : m2 ≡ length (join (expand (rows m q) ++ expand P)) = sym (length-rows m2 q2) ∙ ap length (g .list) in
-          let b = few-rows P (pieces-fine left x row-fit) in
-          let d = pieces-some left x (row-fit .fine) in
-          let z : length (expand (rows m q) ++ expand P) ≡ length (expand (rows m q)) + length (expand P) = length-append (expand (rows m q)) (expand P) in
-          let y = join-some (expand (rows m q) ++ expand P) (omega (arith, b, d, z)) in
-          omega (arith, a, y)
+      waits = grown-some left x row-fit m m2 q q2 g
 
       pub work-turn : length t ≡ length s → length r ≡ length q → Work e n s0 (afterOf left x) (i + 1) (w + k) (m2 - k) t r
       work-turn kept kept2 =

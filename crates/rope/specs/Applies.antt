@@ -4,7 +4,15 @@ use Prim.Native.Nat.{ℕ, _+_, _-_, _*_, _≤_, _<_}
 use mathlib.Core.Path.{_≡_}
 use mathlib.Core.Bool.{true}
 use mathlib.Core.List.{List, [], _∷_, _++_}
-use lib.ListN.{length, drop}
+use lib.IntN.{pos}
+use lib.ListN.{length, take, drop}
+use Rattle.span.specs.declared.ids.Id.{Id}
+use Rattle.span.specs.Ids.{roomOpt}
+use Rattle.rope.specs.declared.change.Update.{Update}
+use Rattle.rope.specs.Place.{Distinct}
+use Rattle.rope.specs.Spans.{AllOk}
+use Rattle.rope.specs.Change.{deleteUnits, updateUnits}
+use Rattle.rope.specs.Codes.{countsFit}
 use Rattle.span.specs.declared.span.FugueSpan.{FugueSpan}
 use Rattle.span.specs.declared.ids.OptId.the-variants.{At}
 use Rattle.span.specs.Span.{lenSpan, spanCode, partSpan}
@@ -49,3 +57,33 @@ pub record Moved (w m k : ℕ) (s q t r : List ℕ) : Type 0 where
   pub last : 0 < m → 0 < m - k
   pub list : rows (w + k) t ++ rows (m - k) r ≡ rows w s ++ rows m q
   pub rest : (n i : ℕ) → n * 72 ≤ length s → w < i → drop i (rows n t) ≡ drop i (rows n s)
+
+-- the first k of m rows went, the last stays
+pub record Kept (m k : ℕ) (q r : List ℕ) : Type 0 where
+  pub most : k ≤ m
+  pub few : m - k ≤ 1
+  pub last : 0 < m → 0 < m - k
+  pub list : rows m q ≡ take k (rows m q) ++ rows (m - k) r
+
+-- a change can be made in n rows
+pub record Counts (e : Change) (n : ℕ) (s : List ℕ) : Type 0 where
+  pub few : n ≤ 65536
+  pub long : n * 72 ≤ length s
+  pub fit : AllFit e (rows n s)
+
+-- a delete of len units from visible position `at` on, in well formed rows
+pub record Deletes (n at len : ℕ) (start : Id) (s : List ℕ) : Type 0 where
+  pub long : n * 72 ≤ length s
+  pub each : AllOk (rows n s)
+  pub fits : at + len ≤ 4294967295
+  pub ids : roomOpt (At start) len ≡ true
+  pub room : length (join (deleteUnits at len start (expand (rows n s)))) * 72 ≤ length s
+
+-- an update of a range of counters, in well formed rows
+pub record Updates (n : ℕ) (u : Update) (s : List ℕ) : Type 0 where
+  pub long : n * 72 ≤ length s
+  pub each : AllOk (rows n s)
+  pub distinct : Distinct (expand (rows n s))
+  pub order : u .from ≤ u .to
+  pub counts : countsFit (u .peer) (pos (u .from)) (pos (u .to)) (u .change) (u .diff) (expand (rows n s)) ≡ true
+  pub room : length (join (updateUnits (u .peer) (pos (u .from)) (pos (u .to)) (u .set) (u .change) (u .diff) (expand (rows n s)))) * 72 ≤ length s

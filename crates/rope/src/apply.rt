@@ -9,7 +9,7 @@ ghost use Rattle.span.specs.Span.{spanCode, lenSpan, partSpan};
 ghost use Rattle.span.specs.Units.{expand, join};
 ghost use Rattle.store.specs.Row.{rows};
 ghost use Rattle.rope.specs.Pieces.{partOf, changedOf, piecesOf, allPieces, CanChange, changeSpan};
-ghost use Rattle.rope.specs.Applies.{Fit, Waiting, Grown, Applies, Moved};
+ghost use Rattle.rope.specs.Applies.{Fit, Waiting, Grown, Applies, Moved, Kept, Counts};
 use crate::change::Change;
 use crate::stream::push;
 use span::span::FugueSpan;
@@ -103,4 +103,46 @@ pub fn apply(s: &mut [u8], n: usize, e: Change) -> usize
 {
     let mut q = [0u8; 432];
     apply_with(s, &mut q, n, e)
+}
+
+// All but the last of the m rows of q go. The answer is how many went.
+pub fn keep_last(q: &mut [u8], m: usize) -> usize
+    requires { ⌜ m * 72 ≤ length (now q) ⌝ }
+    ensures { λ k. ⌜ Kept m k (now (q .entry)) (now (q .exit)) ⌝ }
+{
+    if 1 < m {
+        store::put_row(q, 0, store::get_row(q, m - 1));
+        m - 1
+    } else {
+        0
+    }
+}
+
+// How many rows the change would leave, with a queue of six rows (refusal 10). Nothing is written but the queue.
+pub fn count_with(s: &[u8], q: &mut [u8], n: usize, e: Change) -> usize
+    requires { ⌜ Counts e n (now s) × (432 ≤ length (now q)) ⌝ }
+    ensures { λ k. ⌜ k ≡ length (join (expand (allPieces e (rows n (now (s .entry)))))) ⌝ }
+{
+    let mut left = e;
+    let mut i = 0;
+    let mut gone = 0;
+    let mut m = 0;
+    while i < n {
+        let row = store::get_row(s, i);
+        m = push_row(q, m, left, row);
+        left = left.after(row);
+        i += 1;
+        let k = keep_last(q, m);
+        gone += k;
+        m -= k;
+    }
+    gone + m
+}
+
+pub fn count(s: &[u8], n: usize, e: Change) -> usize
+    requires { ⌜ Counts e n (now s) ⌝ }
+    ensures { λ k. ⌜ k ≡ length (join (expand (allPieces e (rows n (now (s .entry)))))) ⌝ }
+{
+    let mut q = [0u8; 432];
+    count_with(s, &mut q, n, e)
 }

@@ -2,8 +2,10 @@
 pub mod apply;
 pub mod change;
 pub mod check;
+pub mod delete;
 pub mod find;
 pub mod insert;
 pub mod place;
 pub mod seek;
 pub mod stream;
+pub mod update;
