@@ -56,7 +56,7 @@ pub fn move_first(s: &mut [u8], w: usize, q: &mut [u8], m: usize) -> usize
 {
     if 1 < m {
         store::put_row(s, w, store::get_row(q, 0));
-        store::remove::remove_row(q, m, 0);
+        store::remove_rows(q, m, 0, 1);
         1
     } else {
         0
