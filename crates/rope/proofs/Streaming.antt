@@ -13,10 +13,12 @@ use Rattle.span.specs.Units.{unitsOf, expand, Apart, Joined, join}
 use Rattle.span.proofs.Unique.{AllUnits, join-joined, expand-join}
 use Rattle.span.proofs.ForRope.{span-units, list-units, joined-is}
 use Rattle.store.specs.Row.{rows, rowAt, PutRow}
+use Rattle.rope.specs.Spans.{AllOk}
 use Rattle.rope.specs.Streams.{Pushable, Pushed, Stream}
 use Rattle.rope.proofs.Lists.{le-or}
-use Rattle.rope.proofs.Rights.{row-none}
+use Rattle.rope.proofs.Rights.{row-drop, row-none}
 use Rattle.rope.proofs.Borders.{merge-law, own-law, first-law, split, set-row}
+use Rattle.rope.proofs.Whole.{ok-drop}
 use Rattle.rope.proofs.Twice.{rows-take}
 
 -- ---- one span pushed on to a joined list
@@ -130,6 +132,21 @@ module _ (n : ℕ) (s : List ℕ) (goal : List FugueSpan) (still : List FugueSpa
   stream-start h e = record { long = h; low = omega arith; most = omega arith; done = tt; to-come = refl; all = e }
 
 module _ (n w i : ℕ) (l goal : List FugueSpan) (still : List FugueSpan → List FugueSpan) (s : List ℕ) (v : Stream n w i l goal still s) where
+  later : drop (i + 1) (rows n s) ≡ drop (i + 1) l
+  later = sym (drop-drop 1 i (rows n s)) ∙ (ap (drop 1) (v .to-come) ∙ drop-drop 1 i l)
+
+  -- the row to read is as it was
+  pub stream-row : i < n → drop i l ≡ rowAt s (i * 72) ∷ drop (i + 1) l
+  stream-row h = sym (v .to-come) ∙ (row-drop n s i h ∙ ap (λ (r : List FugueSpan). rowAt s (i * 72) ∷ r) later)
+
+  pub stream-ok : i < n → AllOk l → spanCode (rowAt s (i * 72)) ≡ 0
+  unfolding AllOk
+  stream-ok h ok = subst AllOk (stream-row h) (ok-drop i l ok) .0
+
+  -- there is room to push what it gives
+  pub stream-room : i < n → (y : FugueSpan) → spanCode y ≡ 0 → Pushable w y s
+  stream-room h y ok = record { room = omega (arith, v .long, v .low); joined = v .done; fine = ok }
+
   -- what row i gives is pushed on
   pub stream-next : (k : ℕ) (y : FugueSpan) (t : List ℕ) → length t ≡ length s → i < n → spanCode y ≡ 0 → still (drop i l) ≡ unitsOf y ++ still (drop (i + 1) l) → Pushed w y k s t → Stream n k (i + 1) l goal still t
   stream-next k y t len h ok e p =
@@ -144,13 +161,10 @@ module _ (n w i : ℕ) (l goal : List FugueSpan) (still : List FugueSpan → Lis
             (append-assoc (expand (rows w s)) (unitsOf y) (still (drop (i + 1) l)) ∙
             (ap (λ (r : List FugueSpan). expand (rows w s) ++ r) (sym e) ∙ v .all)));
       }
-    where
-      later : drop (i + 1) (rows n s) ≡ drop (i + 1) l
-      later = sym (drop-drop 1 i (rows n s)) ∙ (ap (drop 1) (v .to-come) ∙ drop-drop 1 i l)
 
   -- no row is left
-  pub stream-end : n ≤ i → still [] ≡ [] → drop i l ≡ [] → rows w s ≡ join goal
-  stream-end h e d =
+  pub stream-end : n ≤ i → still [] ≡ [] → rows w s ≡ join goal
+  stream-end h e =
       joined-is (rows w s) goal (v .done)
       (sym (append-nil (expand (rows w s))) ∙
-      (ap (λ (r : List FugueSpan). expand (rows w s) ++ r) (sym (ap still d ∙ e)) ∙ v .all))
+      (ap (λ (r : List FugueSpan). expand (rows w s) ++ r) (sym (ap still (sym (v .to-come) ∙ row-none n s i h) ∙ e)) ∙ v .all))

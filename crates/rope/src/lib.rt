@@ -4,7 +4,9 @@
 pub mod apply;
 pub mod change;
 pub mod check;
+pub mod clear;
 pub mod delete;
+pub mod edit;
 pub mod find;
 pub mod insert;
 pub mod place;
