@@ -10,11 +10,11 @@ use lib.Dec.{eqb}
 use lib.ListN.{length, take, drop, getD, length-drop, drop-of-length-le}
 use lib.Seq.{take-all, drop-cons, drop-drop}
 use Rattle.bytes.specs.Bytes.{indexOf}
-use Rattle.text.specs.Parts.{before, after, part, parts, front, kept}
+use Rattle.text.specs.Parts.{after, rest, parts, front, kept}
 
 -- what is lent of s from a on
-pub rest : (s : List ℕ) (a : ℕ) → take (length s - a) (drop a s) ≡ drop a s
-rest s a = take-all (length s - a) (drop a s) (rw length-drop (omega arith))
+pub lent : (s : List ℕ) (a : ℕ) → take (length s - a) (drop a s) ≡ drop a s
+lent s a = take-all (length s - a) (drop a s) (rw length-drop (omega arith))
 
 -- ---- after
 
@@ -28,17 +28,17 @@ pub after-none : (b : ℕ) (s : List ℕ) (from k : ℕ) → k ≡ indexOf b (dr
 after-none b s from k e h =
     drop-of-length-le s {i = length s} (omega arith) ∙ sym (rw (← e) (drop-of-length-le (drop from s) {i = suc k} (rw length-drop (omega arith))))
 
--- ---- part
+-- ---- rest
 
-pub part-next : (b i : ℕ) (s : List ℕ) → 0 < i → part b (i - 1) (after b s) ≡ part b i s
-unfolding part
-part-next b zero s h = absurd (omega arith)
-part-next b (suc i) s h = simp unary-clauses
+pub rest-next : (b i : ℕ) (s : List ℕ) → 0 < i → rest b (i - 1) (after b s) ≡ rest b i s
+unfolding rest
+rest-next b zero s h = absurd (omega arith)
+rest-next b (suc i) s h = simp unary-clauses
 
-pub part-last : (b i : ℕ) (s : List ℕ) → i ≤ 0 → before b s ≡ part b i s
-unfolding part
-part-last b zero s h = refl
-part-last b (suc i) s h = absurd (omega arith)
+pub rest-here : (b i : ℕ) (s : List ℕ) → i ≤ 0 → s ≡ rest b i s
+unfolding rest
+rest-here b zero s h = refl
+rest-here b (suc i) s h = absurd (omega arith)
 
 -- ---- parts
 

@@ -14,10 +14,14 @@ before b s = take (indexOf b s) s
 abbrev pub after : ℕ → List ℕ → List ℕ
 after b s = drop (suc (indexOf b s)) s
 
--- part i, counted from 0: nothing, where there are not so many
-unfoldable pub part : ℕ → ℕ → List ℕ → List ℕ
-part b zero s = before b s
-part b (suc i) s = part b i (after b s)
+-- all from part i on, the parts counted from 0: nothing, where there are not so many
+unfoldable pub rest : ℕ → ℕ → List ℕ → List ℕ
+rest b zero s = s
+rest b (suc i) s = rest b i (after b s)
+
+-- part i
+abbrev pub part : ℕ → ℕ → List ℕ → List ℕ
+part b i s = before b (rest b i s)
 
 -- how many parts there are: one more than b's
 unfoldable pub parts : ℕ → List ℕ → ℕ

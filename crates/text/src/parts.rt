@@ -42,9 +42,9 @@ fn next(s: &[u8], b: u8, from: usize) -> usize
     }
 }
 
-// Part i, counted from 0, of those between b's: nothing, where there are not so many.
-pub fn part(s: &[u8], b: u8, i: usize) -> &[u8]
-    ensures { λ r. ⌜ now r ≡ spec.part b i (now (s .entry)) ⌝ }
+// All from part i on, of the parts between b's counted from 0: nothing, where there are not so many.
+pub fn rest(s: &[u8], b: u8, i: usize) -> &[u8]
+    ensures { λ r. ⌜ now r ≡ spec.rest b i (now (s .entry)) ⌝ }
 {
     let mut from = 0;
     let mut left = i;
@@ -52,7 +52,14 @@ pub fn part(s: &[u8], b: u8, i: usize) -> &[u8]
         from = next(s, b, from);
         left -= 1;
     }
-    before(&s[from..], b)
+    &s[from..]
+}
+
+// Part i alone.
+pub fn part(s: &[u8], b: u8, i: usize) -> &[u8]
+    ensures { λ r. ⌜ now r ≡ spec.part b i (now (s .entry)) ⌝ }
+{
+    before(rest(s, b, i), b)
 }
 
 // How many parts there are: one more than b's.
