@@ -20,8 +20,8 @@ use Rattle.span.proofs.Same.{sameOpt-true, sameOpt-refl, sameId-refl}
 use Rattle.span.specs.Span.{lenSpan, spanCode, shift, leftOf, partSpan}
 use Rattle.span.proofs.SpanLaws.{SpanOk, span-ok}
 use Rattle.span.specs.Units.{tab, unitAt, unitsOf}
-use Rattle.rope.specs.declared.Offset.{Offset}
-use Rattle.rope.specs.declared.Offset.the-variants as Off
+use Rattle.rope.specs.declared.find.Offset.{Offset}
+use Rattle.rope.specs.declared.find.Offset.the-variants as Off
 use Rattle.rope.specs.Place.{memId, hasOl, posOf}
 use Rattle.rope.specs.Spans.{gap, offsetOf, isAt, covered}
 

@@ -1,4 +1,7 @@
 // The span store: spans in rows of 72 bytes of a lent buffer, read, written and inserted.
+pub mod header;
+pub mod limits;
+
 ghost use mathlib.Core.Path.{_≡_};
 ghost use Prim.Native.Nat.{_+_, _*_, _≤_, _<_};
 ghost use mathlib.Core.List.{_++_, _∷_};

@@ -1,0 +1,16 @@
+pub mod Order
+pub mod Keys
+pub mod Hang
+pub mod ScanPlace
+pub mod Tests
+pub mod Insert
+pub mod Grow
+pub mod Range
+pub mod InsertGood
+pub mod Walk
+pub mod Past
+pub mod Sorts
+pub mod Alike
+pub mod NewKeys
+pub mod Splices
+pub mod Clocks

@@ -1,0 +1,13 @@
+use Rattle.rope.specs.Place.{withOrigins}
+use borrow.Author.Needs.{needs}
+use Rattle.rope.proofs.insert.with_origins.Statement.{statement}
+use Rattle.rope.proofs.insert.with_origins.Tie as tie
+use Rattle.rope.proofs.insert.with_origins.Reads as reads
+use Rattle.rope.proofs.insert.with_origins.Lts as lts
+
+returns : tie.Need-returns
+unfolding withOrigins
+returns c = search needs
+
+pub with-origins-spec : {M : Type 1} → statement M
+with-origins-spec = tie.close (tie.spec returns)

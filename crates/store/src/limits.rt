@@ -1,0 +1,7 @@
+// Document 01's sizes, for the code; specs/Limits.antt has the same numbers for the definitions.
+
+// The units of a list, placeholder included.
+pub const UNITS: usize = 65536;
+
+// The rows of room that count: a longer room counts as that long.
+pub const ROWS: usize = 65536;
