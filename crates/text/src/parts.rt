@@ -4,7 +4,7 @@ ghost use Prim.Native.Nat.{_≤_};
 ghost use lib.ListN.{length, take, drop};
 ghost use Rattle.bytes.specs.Bytes.{indexOf};
 ghost use Rattle.text.specs.Parts as spec;
-ghost use Rattle.text.specs.Parts.{kept, front, trimmed};
+ghost use Rattle.text.specs.Parts.{kept, front, trimmed, sameText};
 
 // The index of the first b, or the length.
 pub fn find(s: &[u8], b: u8) -> usize
@@ -110,4 +110,21 @@ pub fn trim(s: &[u8], b: u8) -> &[u8]
     ensures { λ r. ⌜ now r ≡ trimmed b (now (s .entry)) ⌝ }
 {
     without_front(without_back(s, b), b)
+}
+
+// Whether two texts are the same.
+pub fn same(s: &[u8], t: &[u8]) -> bool
+    ensures { λ r. ⌜ r ≡ sameText (now (s .entry)) (now (t .entry)) ⌝ }
+{
+    if s.len() != t.len() {
+        return false;
+    }
+    let mut i = 0;
+    while i < s.len() {
+        if s[i] != t[i] {
+            return false;
+        }
+        i += 1;
+    }
+    true
 }

@@ -8,15 +8,12 @@ use Rattle.text.proofs.parts.part.Lts as lts
 use Rattle.text.proofs.parts.before.Reads as before-reads
 use Rattle.text.proofs.parts.rest.Reads as rest-reads
 
--- src/parts.rt:62:12
 rest-requires : tie.Need-rest-requires
 rest-requires c κs = search needs
 
--- src/parts.rt:62:5
 before-requires : tie.Need-before-requires
 before-requires c κs = search needs
 
--- src/parts.rt:59:1
 returns : tie.Need-returns
 returns c = c .before2 .ensures ∙ ap (spec.before (c .before .before .before .args .b)) (c .before .rest .ensures)
 
