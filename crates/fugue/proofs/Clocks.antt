@@ -50,7 +50,7 @@ module _ {E : Type 0} (clk : Clock E) where
     where
       go : Test (eqb (peer e) p) (peer e ≡ p) → cnt done p ≤ cond (eqb (peer e) p) (first e + size e) (cnt done p)
       go (pass t d) = let k : cnt done p ≡ first e = subst (λ (z : ℕ). cnt done z ≡ first e) d own in
-        subst (λ (b : Bool). cnt done p ≤ cond b (first e + size e) (cnt done p)) (sym t) (omega arith)
+          subst (λ (b : Bool). cnt done p ≤ cond b (first e + size e) (cnt done p)) (sym t) (omega arith)
       go (fail t d) = subst (λ (b : Bool). cnt done p ≤ cond b (first e + size e) (cnt done p)) (sym t) (omega arith)
 
   pub cnt-own : (done : List E) (e : E) → cnt (e ∷ done) (peer e) ≡ first e + size e
@@ -76,17 +76,18 @@ module _ {E : Type 0} (clk : Clock E) where
       go (inr k) ih = (omega (arith, ih k .0, cnt-grow d f (c .0 .own) (peer e)), ih k .1)
 
   pub disjoint : (done : List E) → Causal done → (e f : E) → MemE e done → MemE f done → peer e ≡ peer f
-    → (i : ℕ) → first e ≤ i → i < first e + size e → first f ≤ i → i < first f + size f → e ≡ f
+      → (i : ℕ) → first e ≤ i → i < first e + size e → first f ≤ i → i < first f + size f → e ≡ f
   unfolding Causal
   disjoint [] c e f me mf p i a1 a2 b1 b2 = absurd (List·Memᴰ·not-nil me)
   disjoint (g ∷ d) c e f me mf p i a1 a2 b1 b2 = go (List·Memᴰ·cases-cons me) (List·Memᴰ·cases-cons mf) (λ (x : MemE e d) (y : MemE f d). disjoint d (c .2) e f x y p i a1 a2 b1 b2)
     where
       no : (u v : E) → u ≡ g → MemE v d → peer v ≡ peer u → first u ≤ i → i < first v + size v → ⊥
       no u v k m q x y =
-        let h : first v + size v ≤ cnt d (peer v) = in-range d (c .2) v m .0 in
-        let h2 : cnt d (peer v) ≡ first g = ap (cnt d) (q ∙ ap (λ (z : E). peer z) k) ∙ c .0 .own in
-        let h3 : first u ≡ first g = ap (λ (z : E). first z) k in
-        omega arith
+          let h : first v + size v ≤ cnt d (peer v) = in-range d (c .2) v m .0 in
+          let h2 : cnt d (peer v) ≡ first g = ap (cnt d) (q ∙ ap (λ (z : E). peer z) k) ∙ c .0 .own in
+          let h3 : first u ≡ first g = ap (λ (z : E). first z) k in
+          omega arith
+
       go : (e ≡ g) ⊎ MemE e d → (f ≡ g) ⊎ MemE f d → (MemE e d → MemE f d → e ≡ f) → e ≡ f
       go (inl k) (inl j) ih = k ∙ sym j
       go (inl k) (inr j) ih = absurd (no e f k j (sym p) a1 b2)
@@ -107,11 +108,18 @@ module _ {E : Type 0} (clk : Clock E) where
     where
       up : Covers d p c → Covers (e ∷ d) p c
       up s = record { e = s .e; isIn = List·Memᴰ·tail (s .isIn); peer = s .peer; low = s .low; high = s .high }
+
       go : Test (eqb (peer e) p) (peer e ≡ p) → Dec (c < first e) → (c < cnt d p → Covers d p c) → c < cond (eqb (peer e) p) (first e + size e) (cnt d p) → Covers (e ∷ d) p c
       go (pass t k) (yes y) ih h = up (ih (let o : cnt d p ≡ first e = subst (λ (z : ℕ). cnt d z ≡ first e) k (ca .0 .own) in omega arith))
-      go (pass t k) (no n) ih h = record { e = e; isIn = List·Memᴰ·head refl; peer = k; low = omega arith;
-        high = subst (λ (b : Bool). c < cond b (first e + size e) (cnt d p)) t h }
+      go (pass t k) (no n) ih h = record {
+        e = e;
+        isIn = List·Memᴰ·head refl;
+        peer = k;
+        low = omega arith;
+        high = subst (λ (b : Bool). c < cond b (first e + size e) (cnt d p)) t h;
+      }
       go (fail t k) dn ih h = up (ih (subst (λ (b : Bool). c < cond b (first e + size e) (cnt d p)) t h))
+
   -- those done, the last first
   abbrev pub doneOf : List E → List E → List E
   doneOf done [] = done
@@ -136,6 +144,7 @@ module _ {E : Type 0} (clk : Clock E) where
       go2 : (e ≡ f) ⊎ MemE e done → MemE e done ⊎ MemE e (f ∷ es)
       go2 (inl k) = inr (List·Memᴰ·head k)
       go2 (inr k) = inl k
+
       go : MemE e (f ∷ done) ⊎ MemE e es → MemE e done ⊎ MemE e (f ∷ es)
       go (inl k) = go2 (List·Memᴰ·cases-cons k)
       go (inr k) = inr (List·Memᴰ·tail k)
@@ -160,37 +169,43 @@ module _ {E : Type 0} (clk : Clock E) where
 
   module _ (S : List E) (wf : WellFormed S) where
     fits-of : (done : List E) → Causal done → ((f : E) → MemE f done → MemE f S) → (e : E) → MemE e S → (MemE e done → ⊥)
-      → ((f : E) → MemE f S → first f < holds e (peer f) → MemE f done) → Fits done e
-    fits-of done ca sub e me new before = record { own = own′ (decLt (first e) (cnt done (peer e))); held = held′;
-        closed = λ (f : E) (m : MemE f done). wf .closed e f me (sub f m) }
+        → ((f : E) → MemE f S → first f < holds e (peer f) → MemE f done) → Fits done e
+    fits-of done ca sub e me new before = record {
+      own = own′ (decLt (first e) (cnt done (peer e)));
+      held = held′;
+      closed = λ (f : E) (m : MemE f done). wf .closed e f me (sub f m);
+    }
       where
         below : (p i : ℕ) → i < holds e p → i < cnt done p
         below p i h =
-          let k : Covers S p i = wf .within e me p i h in
-          let kp : peer (k .e) ≡ p = k .peer in
-          let kl : first (k .e) ≤ i = k .low in
-          let kh : i < first (k .e) + size (k .e) = k .high in
-          let c : first (k .e) < holds e (peer (k .e)) = subst (λ (z : ℕ). first (k .e) < holds e z) (sym kp) (omega arith) in
-          let r : first (k .e) + size (k .e) ≤ cnt done (peer (k .e)) = in-range done ca (k .e) (before (k .e) (k .isIn) c) .0 in
-          subst (λ (z : ℕ). i < cnt done z) kp (omega arith)
+            let k : Covers S p i = wf .within e me p i h in
+            let kp : peer (k .e) ≡ p = k .peer in
+            let kl : first (k .e) ≤ i = k .low in
+            let kh : i < first (k .e) + size (k .e) = k .high in
+            let c : first (k .e) < holds e (peer (k .e)) = subst (λ (z : ℕ). first (k .e) < holds e z) (sym kp) (omega arith) in
+            let r : first (k .e) + size (k .e) ≤ cnt done (peer (k .e)) = in-range done ca (k .e) (before (k .e) (k .isIn) c) .0 in
+            subst (λ (z : ℕ). i < cnt done z) kp (omega arith)
+
         held2 : (p n : ℕ) → holds e p ≡ n → n ≤ cnt done p
         held2 p zero d = omega arith
         held2 p (suc n) d = below p n (omega arith)
+
         held′ : (p : ℕ) → holds e p ≤ cnt done p
         held′ p = held2 p (holds e p) refl
+
         own′ : Dec (first e < cnt done (peer e)) → cnt done (peer e) ≡ first e
         own′ (no n) = omega (arith, held′ (peer e), wf .own e me)
         own′ (yes y) =
-          let k : Covers done (peer e) (first e) = cover done ca (peer e) (first e) y in
-          let q : k .e ≡ e = wf .once (k .e) e (sub (k .e) (k .isIn)) me (k .peer) (first e) (k .low) (k .high) (omega arith) (omega (arith, wf .some e me)) in
-          absurd (new (Memᴰ·cast (sym q) (k .isIn)))
+            let k : Covers done (peer e) (first e) = cover done ca (peer e) (first e) y in
+            let q : k .e ≡ e = wf .once (k .e) e (sub (k .e) (k .isIn)) me (k .peer) (first e) (k .low) (k .high) (omega arith) (omega (arith, wf .some e me)) in
+            absurd (new (Memᴰ·cast (sym q) (k .isIn)))
 
     pub order-of : (es done : List E) → Causal done → ((f : E) → MemE f done → MemE f S) → After S done es → Order S done es
     unfolding After Order
     order-of [] done ca sub a = tt
     order-of (e ∷ es) done ca sub a =
-      let ft : Fits done e = fits-of done ca sub e (a .0) (a .1) (a .2) in
-      (ft, wf .some e (a .0), a .0, order-of es (e ∷ done) (unfold Causal in (ft, wf .some e (a .0), ca)) (λ (f : E) (m : MemE f (e ∷ done)). sub2 f (List·Memᴰ·cases-cons m)) (a .3))
+        let ft : Fits done e = fits-of done ca sub e (a .0) (a .1) (a .2) in
+        (ft, wf .some e (a .0), a .0, order-of es (e ∷ done) (unfold Causal in (ft, wf .some e (a .0), ca)) (λ (f : E) (m : MemE f (e ∷ done)). sub2 f (List·Memᴰ·cases-cons m)) (a .3))
       where
         sub2 : (f : E) → (f ≡ e) ⊎ MemE f done → MemE f S
         sub2 f (inl k) = Memᴰ·cast k (a .0)
@@ -205,6 +220,7 @@ module _ {E : Type 0} (clk : Clock E) where
       here : Dec (first f < holds f (peer f)) → holds f (peer f) ≤ first f
       here (yes y) = absurd (a .1 (a .2 f (a .0) y))
       here (no n) = omega arith
+
       go : (e ≡ f) ⊎ MemE e fs → (MemE e fs → holds e (peer e) ≤ first e) → holds e (peer e) ≤ first e
       go (inl d) ih = subst (λ (z : E). holds z (peer z) ≤ first z) (sym d) (here (decLt (first f) (holds f (peer f))))
       go (inr k) ih = ih k

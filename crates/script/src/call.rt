@@ -7,12 +7,12 @@ use crate::field::IdField;
 use crate::field::SpanField;
 use crate::field::word;
 use crate::version;
-use check::same;
 use span::chunk::RichtextChunk;
 use span::ids::Id;
 use span::span::FugueSpan;
 use text::numbers::Number32;
 use text::parts::rest;
+use text::parts::same;
 
 // Of `insert` and `ins`.
 pub struct Insert {

@@ -1,5 +1,4 @@
 // The fields of a call, each read from its word. A word that does not say one is `Bad`.
-use check::same;
 use span::chunk::RichtextChunk;
 use span::ids::Id;
 use span::ids::OptId;
@@ -18,6 +17,7 @@ use text::parts::after;
 use text::parts::before;
 use text::parts::part;
 use text::parts::parts;
+use text::parts::same;
 
 pub enum IdField {
     Is(Id),
@@ -142,9 +142,9 @@ pub fn opt_status(w: &[u8]) -> OptStatusField {
 
 // An i16.
 pub fn change(w: &[u8]) -> ChangeField {
-    match status_of(false, w) {
-        StatusField::Is(s) => ChangeField::Is(s.delete_times),
-        StatusField::Bad => ChangeField::Bad,
+    match to_u16(signed(w, 32767)) {
+        Number16::Is(bits) => ChangeField::Is(words::signed::int16(bits)),
+        Number16::Nothing => ChangeField::Bad,
     }
 }
 

@@ -1,11 +1,11 @@
 // A version or context as a word: `-`, or pairs PEER:COUNT with commas between, in the order written.
 use crate::field::IdField;
 use crate::field::id_of;
-use check::same;
 use text::parts::after;
 use text::parts::before;
 use text::parts::part;
 use text::parts::parts;
+use text::parts::same;
 
 // How many pairs the word has, where it says a version.
 pub fn pairs(w: &[u8]) -> usize {
