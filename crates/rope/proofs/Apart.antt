@@ -23,7 +23,7 @@ use Rattle.rope.specs.declared.find.Offset.the-variants as Off
 use Rattle.rope.specs.Place.{memId}
 use Rattle.rope.specs.Spans.{offsetOf, isAt, covered, AllOk, Fresh, meetsSpan, holdsAny}
 use Rattle.rope.proofs.Offsets.{off-unit, unit-off, covers-units}
-use Rattle.rope.proofs.Lists.{or-left, or-right, or-both, mem-append}
+use Rattle.rope.proofs.Lists.{le-or, or-left, or-right, or-both, mem-append}
 use Rattle.rope.proofs.Rights.{row-drop, row-none}
 
 pub covered-unit : (s : FugueSpan) → spanCode s ≡ 0 → (k : ℕ) → k < lenSpan s → covered s (At (incId (s .id) k)) ≡ true
@@ -62,15 +62,6 @@ module _ (a b : FugueSpan) (oka : spanCode a ≡ 0) (okb : spanCode b ≡ 0) (ap
       clash : (j : ℕ) → j < lenSpan a → incId (b .id) k ≡ incId (a .id) j → ⊥
       clash j l e = side (le-or k j)
         where
-          le-or : (k j : ℕ) → (k ≤ j) ⊎ (j ≤ k)
-          le-or zero j = inl (omega arith)
-          le-or (suc k) zero = inr (omega arith)
-          le-or (suc k) (suc j) = up (le-or k j)
-            where
-              up : (k ≤ j) ⊎ (j ≤ k) → (suc k ≤ suc j) ⊎ (suc j ≤ suc k)
-              up (inl p) = inl (omega arith)
-              up (inr p) = inr (omega arith)
-
           side : (k ≤ j) ⊎ (j ≤ k) → ⊥
           side (inl p) =
               let q = earlier (a .id) (b .id) (lenSpan a) (lenSpan b) j k (span-ok a oka .own) (span-ok b okb .own) e p in

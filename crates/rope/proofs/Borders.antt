@@ -136,10 +136,3 @@ module _ (n : ℕ) (s : List ℕ) (r : ℕ) (y : FugueSpan) (b : Border n r y s)
     where
       zer : r ≡ 0
       zer = omega arith
-
-  pub border-room : take r (rows n s) ++ y ∷ drop r (rows n s) ≡ join (bordered r y (rows n s)) → n * 72 + 72 ≤ length s
-  border-room e =
-      let a : length (take r (rows n s)) ≡ r = length-take-le r (rows n s) (rw (length-rows n s) (b .at)) in
-      let d : length (drop r (rows n s)) ≡ n - r = length-drop r (rows n s) ∙ ap (λ (k : ℕ). k - r) (length-rows n s) in
-      let w : length (join (bordered r y (rows n s))) ≡ r + suc (n - r) = ap length (sym e) ∙ (length-append (take r (rows n s)) (y ∷ drop r (rows n s)) ∙ ap₂ (λ (k m : ℕ). k + suc m) a d) in
-      omega (arith, b .room, w, b .at)

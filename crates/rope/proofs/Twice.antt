@@ -27,7 +27,7 @@ use Rattle.rope.proofs.Lists.{or-left, or-right, or-both, and-true, mem
 use Rattle.rope.proofs.Rights.{row-drop, row-take, row-none}
 use Rattle.rope.proofs.Apart.{fresh-of, covered-unit, Shared, shared-of}
 
-rows-take : (i n : ℕ) (s : List ℕ) → i ≤ n → rows i s ≡ take i (rows n s)
+pub rows-take : (i n : ℕ) (s : List ℕ) → i ≤ n → rows i s ≡ take i (rows n s)
 unfolding rows
 rows-take zero n s h = refl
 rows-take (suc i) zero s h = absurd (omega arith)
