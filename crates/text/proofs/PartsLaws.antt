@@ -1,20 +1,20 @@
 -- the parts of a text, as loops over it meet them
 use mathlib.Core.Path.{_≡_, refl, sym, ap, _∙_}
-use mathlib.Core.Bool.{Bool, true, false, cond}
+use mathlib.Core.Bool.{Bool, true, false, cond, _&&_, and-eq-true-iff, false≢true}
 use mathlib.Core.List.{List, [], _∷_}
 use Prim.Native.Nat.{ℕ, zero, suc, _+_, _-_, _≤_, _<_}
 use native.Mathlib.Omega.{arith}
 use native.Mathlib.Numerals.{add-one, unary-clauses}
-use borrow.Author.Tests.{eq-eqb, ne-eqb}
+use borrow.Author.Tests.{eq-eqb, ne-eqb, eqb-true}
 use lib.Dec.{eqb}
 use lib.ListN.{length, take, drop, getD, length-drop, drop-of-length-le}
 use lib.Seq.{take-all, drop-cons, drop-drop}
 use Rattle.bytes.specs.Bytes.{indexOf}
-use Rattle.text.specs.Parts.{before, after, part, parts, front, kept}
+use Rattle.text.specs.Parts.{after, rest, parts, front, kept, sameText}
 
 -- what is lent of s from a on
-pub rest : (s : List ℕ) (a : ℕ) → take (length s - a) (drop a s) ≡ drop a s
-rest s a = take-all (length s - a) (drop a s) (rw length-drop (omega arith))
+pub lent : (s : List ℕ) (a : ℕ) → take (length s - a) (drop a s) ≡ drop a s
+lent s a = take-all (length s - a) (drop a s) (rw length-drop (omega arith))
 
 -- ---- after
 
@@ -28,17 +28,17 @@ pub after-none : (b : ℕ) (s : List ℕ) (from k : ℕ) → k ≡ indexOf b (dr
 after-none b s from k e h =
     drop-of-length-le s {i = length s} (omega arith) ∙ sym (rw (← e) (drop-of-length-le (drop from s) {i = suc k} (rw length-drop (omega arith))))
 
--- ---- part
+-- ---- rest
 
-pub part-next : (b i : ℕ) (s : List ℕ) → 0 < i → part b (i - 1) (after b s) ≡ part b i s
-unfolding part
-part-next b zero s h = absurd (omega arith)
-part-next b (suc i) s h = simp unary-clauses
+pub rest-next : (b i : ℕ) (s : List ℕ) → 0 < i → rest b (i - 1) (after b s) ≡ rest b i s
+unfolding rest
+rest-next b zero s h = absurd (omega arith)
+rest-next b (suc i) s h = simp unary-clauses
 
-pub part-last : (b i : ℕ) (s : List ℕ) → i ≤ 0 → before b s ≡ part b i s
-unfolding part
-part-last b zero s h = refl
-part-last b (suc i) s h = absurd (omega arith)
+pub rest-here : (b i : ℕ) (s : List ℕ) → i ≤ 0 → s ≡ rest b i s
+unfolding rest
+rest-here b zero s h = refl
+rest-here b (suc i) s h = absurd (omega arith)
 
 -- ---- parts
 
@@ -89,3 +89,46 @@ module _ (b : ℕ) (s : List ℕ) where
   unfolding kept
   kept-end zero h = refl
   kept-end (suc n) h = absurd (omega arith)
+
+-- ---- sameText
+
+pub same-lengths : (s t : List ℕ) → (length s ≡ length t → ⊥) → false ≡ sameText s t
+unfolding sameText
+same-lengths [] [] h = absurd (h refl)
+same-lengths [] (y ∷ t) h = refl
+same-lengths (x ∷ s) [] h = refl
+same-lengths (x ∷ s) (y ∷ t) h = go (eqb x y) (same-lengths s t (λ e. h (ap suc e)))
+  where
+    go : (b : Bool) → false ≡ sameText s t → false ≡ (b && sameText s t)
+    go true e = e
+    go false e = refl
+
+module _ (s t : List ℕ) (i : ℕ) (h : i < length s) (k : i < length t) where
+  pub same-next : getD s i 0 ≡ getD t i 0 → sameText (drop (i + 1) s) (drop (i + 1) t) ≡ sameText (drop i s) (drop i t)
+  unfolding sameText
+  same-next e = rw (add-one, drop-cons s i 0 h, drop-cons t i 0 k, eq-eqb (getD s i 0) (getD t i 0) e)
+
+  pub same-other : (getD s i 0 ≡ getD t i 0 → ⊥) → false ≡ sameText (drop i s) (drop i t)
+  unfolding sameText
+  same-other e = rw (drop-cons s i 0 h, drop-cons t i 0 k, ne-eqb (getD s i 0) (getD t i 0) e)
+
+pub same-end : (s t : List ℕ) (i : ℕ) → length s ≤ i → length t ≤ i → true ≡ sameText (drop i s) (drop i t)
+unfolding sameText
+same-end s t i h k = rw (drop-of-length-le s h, drop-of-length-le t k)
+
+-- the same exactly where they are equal
+pub same-refl : (s : List ℕ) → sameText s s ≡ true
+unfolding sameText
+same-refl [] = refl
+same-refl (x ∷ s) = rw (eq-eqb x x refl) (same-refl s)
+
+pub same-equal : (s t : List ℕ) → sameText s t ≡ true → s ≡ t
+unfolding sameText
+same-equal [] [] e = refl
+same-equal [] (y ∷ t) e = absurd (false≢true e)
+same-equal (x ∷ s) [] e = absurd (false≢true e)
+same-equal (x ∷ s) (y ∷ t) e =
+    let p = and-eq-true-iff (eqb x y) (sameText s t) .0 e in
+    let q : x ≡ y = eqb-true x y (p .0) in
+    let r : s ≡ t = same-equal s t (p .1) in
+    cc

@@ -1,6 +1,6 @@
 -- a text cut at a byte b: what stands before the first b, what after it, and the part between two
 use Prim.Native.Nat.{ℕ, zero, suc}
-use mathlib.Core.Bool.{cond}
+use mathlib.Core.Bool.{Bool, true, false, cond, _&&_}
 use mathlib.Core.List.{List, [], _∷_}
 use lib.Dec.{eqb}
 use lib.ListN.{length, take, drop, getD}
@@ -14,10 +14,14 @@ before b s = take (indexOf b s) s
 abbrev pub after : ℕ → List ℕ → List ℕ
 after b s = drop (suc (indexOf b s)) s
 
--- part i, counted from 0: nothing, where there are not so many
-unfoldable pub part : ℕ → ℕ → List ℕ → List ℕ
-part b zero s = before b s
-part b (suc i) s = part b i (after b s)
+-- all from part i on, the parts counted from 0: nothing, where there are not so many
+unfoldable pub rest : ℕ → ℕ → List ℕ → List ℕ
+rest b zero s = s
+rest b (suc i) s = rest b i (after b s)
+
+-- part i
+abbrev pub part : ℕ → ℕ → List ℕ → List ℕ
+part b i s = before b (rest b i s)
 
 -- how many parts there are: one more than b's
 unfoldable pub parts : ℕ → List ℕ → ℕ
@@ -37,3 +41,10 @@ kept b s (suc n) = cond (eqb (getD s n 0) b) (kept b s n) (suc n)
 -- s without the b's at both ends
 abbrev pub trimmed : ℕ → List ℕ → List ℕ
 trimmed b s = front b (take (kept b s (length s)) s)
+
+-- whether two texts are the same
+unfoldable pub sameText : List ℕ → List ℕ → Bool
+sameText [] [] = true
+sameText [] (y ∷ t) = false
+sameText (x ∷ s) [] = false
+sameText (x ∷ s) (y ∷ t) = eqb x y && sameText s t

@@ -4,7 +4,7 @@ ghost use Prim.Native.Nat.{_≤_};
 ghost use lib.ListN.{length, take, drop};
 ghost use Rattle.bytes.specs.Bytes.{indexOf};
 ghost use Rattle.text.specs.Parts as spec;
-ghost use Rattle.text.specs.Parts.{kept, front, trimmed};
+ghost use Rattle.text.specs.Parts.{kept, front, trimmed, sameText};
 
 // The index of the first b, or the length.
 pub fn find(s: &[u8], b: u8) -> usize
@@ -42,9 +42,9 @@ fn next(s: &[u8], b: u8, from: usize) -> usize
     }
 }
 
-// Part i, counted from 0, of those between b's: nothing, where there are not so many.
-pub fn part(s: &[u8], b: u8, i: usize) -> &[u8]
-    ensures { λ r. ⌜ now r ≡ spec.part b i (now (s .entry)) ⌝ }
+// All from part i on, of the parts between b's counted from 0: nothing, where there are not so many.
+pub fn rest(s: &[u8], b: u8, i: usize) -> &[u8]
+    ensures { λ r. ⌜ now r ≡ spec.rest b i (now (s .entry)) ⌝ }
 {
     let mut from = 0;
     let mut left = i;
@@ -52,7 +52,14 @@ pub fn part(s: &[u8], b: u8, i: usize) -> &[u8]
         from = next(s, b, from);
         left -= 1;
     }
-    before(&s[from..], b)
+    &s[from..]
+}
+
+// Part i alone.
+pub fn part(s: &[u8], b: u8, i: usize) -> &[u8]
+    ensures { λ r. ⌜ now r ≡ spec.part b i (now (s .entry)) ⌝ }
+{
+    before(rest(s, b, i), b)
 }
 
 // How many parts there are: one more than b's.
@@ -103,4 +110,21 @@ pub fn trim(s: &[u8], b: u8) -> &[u8]
     ensures { λ r. ⌜ now r ≡ trimmed b (now (s .entry)) ⌝ }
 {
     without_front(without_back(s, b), b)
+}
+
+// Whether two texts are the same.
+pub fn same(s: &[u8], t: &[u8]) -> bool
+    ensures { λ r. ⌜ r ≡ sameText (now (s .entry)) (now (t .entry)) ⌝ }
+{
+    if s.len() != t.len() {
+        return false;
+    }
+    let mut i = 0;
+    while i < s.len() {
+        if s[i] != t[i] {
+            return false;
+        }
+        i += 1;
+    }
+    true
 }

@@ -1,5 +1,5 @@
 use Rattle.text.proofs.NumbersLaws.{decimal-most, signed-empty, signed-minus, signed-plus}
-use Rattle.text.proofs.PartsLaws.{rest}
+use Rattle.text.proofs.PartsLaws.{lent}
 use Rattle.text.specs.Numbers.{negated}
 use mathlib.Core.Path.{sym, _∙_}
 use native.Mathlib.Omega.{arith}
@@ -41,7 +41,7 @@ enum-known-n c = search needs
 
 negative-requires : tie.Need-negative-requires
 negative-requires c κs = let a = c .before .before .before .before .before .before .before .before .before .before .args in
-    let e = rw (c .before .before .before .before .wide .ensures .0, rest (a .s .now) 1) at (c .before .before .before .decimal .ensures) in
+    let e = rw (c .before .before .before .before .wide .ensures .0, lent (a .s .now) 1) at (c .before .before .before .decimal .ensures) in
     decimal-most _ _ _ (sym e ∙ c .before .n .given .1)
 
 enum-told : tie.Need-enum-told
@@ -56,13 +56,13 @@ decimal-requires-2 c κs = search needs
 returns-2 : tie.Need-returns-2
 unfolding negated
 returns-2 c = let a = c .before .before .before .before .before .before .before .before .before .before .before .args in
-    let e = rw (c .before .before .before .before .before .wide .ensures .0, rest (a .s .now) 1) at (c .before .before .before .before .decimal .ensures) in
+    let e = rw (c .before .before .before .before .before .wide .ensures .0, lent (a .s .now) 1) at (c .before .before .before .before .decimal .ensures) in
     rw (c .negative .ensures) (signed-minus (a .most) (a .s .now) _ (omega arith) (c .before .before .before .before .before .before .before .if2 .taken) (sym e ∙ c .before .before .n .given .1))
 
 returns-3 : tie.Need-returns-3
 unfolding negated
 returns-3 c = let a = c .before .before .before .before .before .before .before .before .before .args in
-    let e = rw (c .before .before .before .wide .ensures .0, rest (a .s .now) 1) at (c .before .before .decimal .ensures) in
+    let e = rw (c .before .before .before .wide .ensures .0, lent (a .s .now) 1) at (c .before .before .decimal .ensures) in
     signed-minus (a .most) (a .s .now) _ (omega arith) (c .before .before .before .before .before .if2 .taken) (sym e ∙ c .enum-told .given .1)
 
 returns-4 : tie.Need-returns-4

@@ -2,7 +2,7 @@ use Rattle.bytes.specs.Bytes.{indexOf}
 use Prim.Native.Nat.{_+_, suc}
 use native.Mathlib.Numerals.{add-one}
 use lib.ListN.{drop, drop-of-length-le}
-use Rattle.text.proofs.PartsLaws.{rest, after-at, after-none}
+use Rattle.text.proofs.PartsLaws.{lent, after-at, after-none}
 use lib.Seq.{drop-length}
 use mathlib.Core.Path.{sym, _∙_}
 use native.Mathlib.Omega.{arith}
@@ -38,12 +38,12 @@ part-result-end-2 : tie.Need-part-result-end-2
 part-result-end-2 c = search needs
 
 returns : tie.Need-returns
-returns c = let a = c .before .before .before .before .args in rest (a .s .now) (c .before .before .find .result + 1) ∙ rw (add-one, c .before .before .find .ensures .0)
+returns c = let a = c .before .before .before .before .args in lent (a .s .now) (c .before .before .find .result + 1) ∙ rw (add-one, c .before .before .find .ensures .0)
 
 returns-2 : tie.Need-returns-2
 returns-2 c = let a = c .before .before .before .before .args in
     let k = c .before .before .find .result in
-    rest (a .s .now) k ∙ drop-of-length-le (a .s .now) {i = k} (omega arith) ∙ sym (drop-of-length-le (a .s .now) {i = suc (indexOf (a .b) (a .s .now))} (omega (arith, c .before .before .find .ensures .0)))
+    lent (a .s .now) k ∙ drop-of-length-le (a .s .now) {i = k} (omega arith) ∙ sym (drop-of-length-le (a .s .now) {i = suc (indexOf (a .b) (a .s .now))} (omega (arith, c .before .before .find .ensures .0)))
 
 pub after-spec : {M : Type 1} → statement M
 after-spec =

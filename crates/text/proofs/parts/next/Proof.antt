@@ -1,4 +1,4 @@
-use Rattle.text.proofs.PartsLaws.{rest, after-at, after-none}
+use Rattle.text.proofs.PartsLaws.{lent, after-at, after-none}
 use lib.ListN.{length-drop}
 use lib.ListN.{length, drop}
 use native.Mathlib.Omega.{arith}
@@ -31,10 +31,10 @@ add-result-2 : tie.Need-add-result-2
 add-result-2 c = search needs
 
 returns : tie.Need-returns
-returns c = let a = c .before .before .before .before .args in (after-at (a .b) (a .s .now) (a .from) _ (rw (rest (a .s .now) (a .from)) at (c .before .find .ensures .0)), omega arith)
+returns c = let a = c .before .before .before .before .args in (after-at (a .b) (a .s .now) (a .from) _ (rw (lent (a .s .now) (a .from)) at (c .before .find .ensures .0)), omega arith)
 
 returns-2 : tie.Need-returns-2
-returns-2 c = let a = c .before .before .before .before .args in (after-none (a .b) (a .s .now) (a .from) _ (rw (rest (a .s .now) (a .from)) at (c .before .find .ensures .0)) (omega arith), omega arith)
+returns-2 c = let a = c .before .before .before .before .args in (after-none (a .b) (a .s .now) (a .from) _ (rw (lent (a .s .now) (a .from)) at (c .before .find .ensures .0)) (omega arith), omega arith)
 
 pub next-spec : {M : Type 1} → statement M
 next-spec =

@@ -1,4 +1,4 @@
-use Rattle.text.proofs.PartsLaws.{rest, front-same, front-other, front-end}
+use Rattle.text.proofs.PartsLaws.{lent, front-same, front-other, front-end}
 use Rattle.text.specs.Parts.{front}
 use lib.ListN.{length, drop, length-drop}
 use native.Mathlib.Omega.{arith}
@@ -34,10 +34,10 @@ part-t-end : tie.Need-part-t-end Inv-loop μ-loop
 part-t-end c = omega arith
 
 loop-less : tie.Need-loop-less Inv-loop μ-loop
-loop-less c = let l = c .before .before .before .before .loop in rw (rest (l .t .now) 1, length-drop) (omega arith)
+loop-less c = let l = c .before .before .before .before .loop in rw (lent (l .t .now) 1, length-drop) (omega arith)
 
 loop-again : tie.Need-loop-again Inv-loop μ-loop
-loop-again c = let l = c .before .before .before .before .loop in rw (rest (l .t .now) 1) (front-same _ (l .t .now) (omega arith) (c .before .if1 .left) ∙ l .inv)
+loop-again c = let l = c .before .before .before .before .loop in rw (lent (l .t .now) 1) (front-same _ (l .t .now) (omega arith) (c .before .if1 .left) ∙ l .inv)
 
 returns-2 : tie.Need-returns-2 Inv-loop μ-loop
 returns-2 c = let l = c .before .loop in front-end _ (l .t .now) (omega arith) ∙ l .inv
