@@ -169,10 +169,11 @@ module _ (key : OptId → Key) (us : List FugueSpan) (wf : (u : FugueSpan) → M
           subst (λ (z : OptId). key (ref v) ≡ key z ++ sr (v .id) ∷ []) (sameOpt-true (ol v) r (b .1))
           (hungR-key key (subst (λ (z : OptId). Hung key (ol v) (v .id) z) (isNone-true (prOf us v) (b .0)) (wf v (t .0))))
 
-  Rises : List FugueSpan → List FugueSpan → Type 0
+  -- rising keys, and each unit is one of the siblings s or below one
+  abbrev Rises : List FugueSpan → List FugueSpan → Type 0
   Rises s l = Sorted key l × ((w : FugueSpan) → Mem w l → Under key us s w)
 
-  module _ (f : List FugueSpan → List FugueSpan) (ih : (left : Bool) (k : Key) (s : List FugueSpan) → Kids key us left k s → Sorted key (f s) × ((w : FugueSpan) → Mem w (f s) → Under key us s w)) where
+  module _ (f : List FugueSpan → List FugueSpan) (ih : (left : Bool) (k : Key) (s : List FugueSpan) → Kids key us left k s → Rises s (f s)) where
     block : FugueSpan → List FugueSpan
     block u = f (keepIf (leftKid us (ref u)) us) ++ (u ∷ f (keepIf (rightKid us (ref u)) us))
 
@@ -229,8 +230,8 @@ module _ (key : OptId → Key) (us : List FugueSpan) (wf : (u : FugueSpan) → M
         go (inr k) = go2 (List·Memᴰ·cases-cons k)
 
     each-step : (left : Bool) (k : Key) (u : FugueSpan) (s : List FugueSpan) → Kids key us left k (u ∷ s)
-        → (Kids key us left k s → Sorted key (walkEach f us s) × ((w : FugueSpan) → Mem w (walkEach f us s) → Under key us s w))
-        → Sorted key (walkEach f us (u ∷ s)) × ((w : FugueSpan) → Mem w (walkEach f us (u ∷ s)) → Under key us (u ∷ s) w)
+        → (Kids key us left k s → Rises s (walkEach f us s))
+        → Rises (u ∷ s) (walkEach f us (u ∷ s))
     unfolding walkEach
     each-step left k u s ks before = (sorted-app key bl (walkEach f us s) (block-sorted u) (rec .0) apart, λ (w : FugueSpan) (m : Mem w (bl ++ walkEach f us s)). go w (List·Memᴰ·append-cases bl m))
       where
@@ -243,7 +244,7 @@ module _ (key : OptId → Key) (us : List FugueSpan) (wf : (u : FugueSpan) → M
         kt : Kids key us left k s
         kt = record { inUs = λ (v : FugueSpan) (m : Mem v s). ks .inUs v (List·Memᴰ·tail m); byKey = λ (v : FugueSpan) (m : Mem v s). ks .byKey v (List·Memᴰ·tail m); order = ks .order .1 }
 
-        rec : Sorted key (walkEach f us s) × ((w : FugueSpan) → Mem w (walkEach f us s) → Under key us s w)
+        rec : Rises s (walkEach f us s)
         rec = before kt
 
         apart : (v w : FugueSpan) → Mem v bl → Mem w (walkEach f us s) → Lt (key (ref v)) (key (ref w))
@@ -261,12 +262,12 @@ module _ (key : OptId → Key) (us : List FugueSpan) (wf : (u : FugueSpan) → M
         go w (inr m) = let b : Under key us s w = rec .1 w m in
             record { top = b .top; topIn = List·Memᴰ·tail (b .topIn); rest = b .rest; path = b .path; inU = b .inU }
 
-    each : (left : Bool) (k : Key) (s : List FugueSpan) → Kids key us left k s → Sorted key (walkEach f us s) × ((w : FugueSpan) → Mem w (walkEach f us s) → Under key us s w)
+    each : (left : Bool) (k : Key) (s : List FugueSpan) → Kids key us left k s → Rises s (walkEach f us s)
     unfolding walkEach
     each left k [] ks = (tt, λ (w : FugueSpan) (m : Mem w []). absurd (List·Memᴰ·not-nil m))
     each left k (u ∷ s) ks = each-step left k u s ks (each left k s)
 
-  rises : (d : ℕ) (left : Bool) (k : Key) (s : List FugueSpan) → Kids key us left k s → Sorted key (walkList d us s) × ((w : FugueSpan) → Mem w (walkList d us s) → Under key us s w)
+  rises : (d : ℕ) (left : Bool) (k : Key) (s : List FugueSpan) → Kids key us left k s → Rises s (walkList d us s)
   unfolding walkList
   rises zero left k s ks = (tt, λ (w : FugueSpan) (m : Mem w []). absurd (List·Memᴰ·not-nil m))
   rises (suc d) left k s ks = each (walkList d us) (rises d) left k s ks

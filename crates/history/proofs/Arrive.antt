@@ -238,12 +238,12 @@ module _ (n : ℕ) (done : List Edit) (h : History) (key : OptId → Key) (r : R
         go (inl d) = inl d
         go (inr t) = inr (t .0, t .1, t .2)
 
-    key2 : OptId → Key
+    abbrev key2 : OptId → Key
     key2 = keyOf key l1 good1 (e .id) m x o ix newest
 
-    good2 : Good (keyOf key l1 good1 (e .id) m x o ix newest) (insertUnits (e .at) (newSpan (e .id) lam c) l1)
+    good2 : Good key2 (insertUnits (e .at) (newSpan (e .id) lam c) l1)
     unfolding newSpan
-    good2 = insert-good (keyOf key l1 good1 (e .id) m x o ix newest) l1 (good-new key l1 good1 (e .id) m x o ix newest) (e .at) s
+    good2 = insert-good key2 l1 (good-new key l1 good1 (e .id) m x o ix newest) (e .at) s
         (context-closed n done h key r e (a .known) (a .fits)) newest (hung-new key l1 good1 (e .id) m x o ix newest)
         (λ (j : ℕ) (b : suc j < lenOf c). hungs-new key l1 good1 (e .id) m x o ix newest j (omega arith)) (omega arith)
 
@@ -282,19 +282,19 @@ module _ (n : ℕ) (done : List Edit) (h : History) (key : OptId → Key) (r : R
         go : (u : FugueSpan) × Mem u (h .list) × (plain u ≡ plain (t .0)) → length (key z) ≤ length (h .list)
         go q = subst (λ (y : OptId). length (key y) ≤ length (h .list)) (ap At (plain-same (q .0) (t .0) (q .2) .id) ∙ t .2) (r .deep (q .0) (q .1))
 
-    deep2 : (w : FugueSpan) → Mem w l2 → length (keyOf key l1 good1 (e .id) m x o ix newest (ref w)) ≤ length l2
+    deep2 : (w : FugueSpan) → Mem w l2 → length (key2 (ref w)) ≤ length l2
     deep2 w k = go (splice-from sp w k)
       where
-        go : Mem w l1 ⊎ Mem w (unitsOf (withOrigins s x o)) → length (keyOf key l1 good1 (e .id) m x o ix newest (ref w)) ≤ length l2
+        go : Mem w l1 ⊎ Mem w (unitsOf (withOrigins s x o)) → length (key2 (ref w)) ≤ length l2
         go (inl q) =
-            let b : length (keyOf key l1 good1 (e .id) m x o ix newest (ref w)) ≡ length (key (ref w)) = ap length (keyOf-old key l1 good1 (e .id) m x o ix newest (ref w) (inr (w, q, refl))) in
+            let b : length (key2 (ref w)) ≡ length (key (ref w)) = ap length (keyOf-old key l1 good1 (e .id) m x o ix newest (ref w) (inr (w, q, refl))) in
             omega (arith, b, keyLen (ref w) (inr (w, q, refl)), len2)
         go (inr q) =
             let t : (i : ℕ) × (i < suc m) × (w ≡ Units.unitAt (withOrigins s x o) i) × (w .id ≡ incId (e .id) i) = newId w q in
             let j : t .0 < suc m = t .1 in
             let k0 : Key = firstKey key (e .id) x (parentRight l1 x o) in
-            let b : length (keyOf key l1 good1 (e .id) m x o ix newest (ref w)) ≡ length (spanKey (e .id) (firstKey key (e .id) x (parentRight l1 x o)) (t .0))
-            = ap length (ap (λ (z : Id). keyOf key l1 good1 (e .id) m x o ix newest (At z)) (t .3) ∙ keyOf-new key l1 good1 (e .id) m x o ix newest (t .0) (t .1)) in
+            let b : length (key2 (ref w)) ≡ length (spanKey (e .id) (firstKey key (e .id) x (parentRight l1 x o)) (t .0))
+            = ap length (ap (λ (z : Id). key2 (At z)) (t .3) ∙ keyOf-new key l1 good1 (e .id) m x o ix newest (t .0) (t .1)) in
             omega (
               arith,
               b,
@@ -333,8 +333,8 @@ module _ (n : ℕ) (done : List Edit) (h : History) (key : OptId → Key) (r : R
         let b2 : k < lenOf c = subst (λ (z : RichtextChunk). k < lenOf z) (sym dc) b in
         (Units.unitAt (withOrigins s x o) k, splice-new sp (Units.unitAt (withOrigins s x o) k) (unit-in (withOrigins s x o) k b2), refl)
 
-    run-insert : Run n (e ∷ done) (next l2) (keyOf key l1 good1 (e .id) m x o ix newest)
-    run-insert = run-next l2 same (keyOf key l1 good1 (e .id) m x o ix newest) good2 deep2 from old fresh
+    run-insert : Run n (e ∷ done) (next l2) key2
+    run-insert = run-next l2 same key2 good2 deep2 from old fresh
 
   -- ---- a delete
 

@@ -117,19 +117,23 @@ module _ (n : ℕ) (done : List Edit) (h : History) (key : OptId → Key) (r : R
 
 module _ (n : ℕ) (done1 done2 : List Edit) (h1 h2 : History) (key1 key2 : OptId → Key) (r1 : Run n done1 h1 key1) (r2 : Run n done2 h2 key2)
     (among : (e : Edit) → MemE e done1 → MemE e done2) where
-  Twin : FugueSpan → Type 0
+  -- the unit of the other that is plainly the same and has the same key
+  abbrev pub Twin : FugueSpan → Type 0
   Twin u = (v : FugueSpan) × Mem v (h2 .list) × (plain u ≡ plain v) × (key1 (ref u) ≡ key2 (ref u))
+
+  abbrev pub Back : FugueSpan → Type 0
+  Back v = (u : FugueSpan) × Mem u (h1 .list) × (plain u ≡ plain v) × (key1 (ref u) ≡ key2 (ref u))
 
   -- the two agree on the edits d
   pub record Agree (d : List Edit) : Type 0 where
-    pub units : (u : FugueSpan) → Mem u (h1 .list) → num u < cnt (clock n) d (u .id .peer) → (v : FugueSpan) × Mem v (h2 .list) × (plain u ≡ plain v) × (key1 (ref u) ≡ key2 (ref u))
+    pub units : (u : FugueSpan) → Mem u (h1 .list) → num u < cnt (clock n) d (u .id .peer) → Twin u
     pub tooks : (x : Held) → MemH x (h1 .held) → MemE (x .edit) d → MemH x (h2 .held)
 
   uniq2 : (u w : FugueSpan) → Mem u (h2 .list) → Mem w (h2 .list) → ref u ≡ ref w → u ≡ w
   uniq2 = sorted-uniq key2 (h2 .list) (r2 .good .sorted)
 
   module _ (d : List Edit) (cd : Causal (clock n) d) (sub : (e : Edit) → MemE e d → MemE e done1) (ag : Agree d) where
-    units-back : (v : FugueSpan) → Mem v (h2 .list) → num v < cnt (clock n) d (v .id .peer) → (u : FugueSpan) × Mem u (h1 .list) × (plain u ≡ plain v) × (key1 (ref u) ≡ key2 (ref u))
+    units-back : (v : FugueSpan) → Mem v (h2 .list) → num v < cnt (clock n) d (v .id .peer) → Back v
     units-back v m b = (t .0, t .1, w .2 ∙ ap plain wv, w .3)
       where
         k : Covers (clock n) d (v .id .peer) (num v)
@@ -150,7 +154,7 @@ module _ (n : ℕ) (done1 done2 : List Edit) (h1 h2 : History) (key1 key2 : OptI
         b1 : num (t .0) < cnt (clock n) d (t .0 .id .peer)
         b1 = subst (λ (z : Id). number (z .counter) < cnt (clock n) d (z .peer)) (sym i) b
 
-        w : (x : FugueSpan) × Mem x (h2 .list) × (plain (t .0) ≡ plain x) × (key1 (ref (t .0)) ≡ key2 (ref (t .0)))
+        w : Twin (t .0)
         w = ag .units (t .0) (t .1) b1
 
         wv : w .0 ≡ v
@@ -196,14 +200,14 @@ module _ (n : ℕ) (done1 done2 : List Edit) (h1 h2 : History) (key1 key2 : OptI
         to w m =
             let t : (a : FugueSpan) × Mem a (h1 .list) × (view v (h1 .held) a ≡ w) × (num a < count n v (a .id .peer)) × (notFuture w ≡ true) = seen-from n done1 h1 key1 r1 v w m in
             let b : num (t .0) < count n v (t .0 .id .peer) = t .3 in
-            let x : (x : FugueSpan) × Mem x (h2 .list) × (plain (t .0) ≡ plain x) × (key1 (ref (t .0)) ≡ key2 (ref (t .0))) = ag .units (t .0) (t .1) (omega (arith, held (t .0 .id .peer))) in
+            let x : Twin (t .0) = ag .units (t .0) (t .1) (omega (arith, held (t .0 .id .peer))) in
             keepIf-keeps notFuture (map (view v (h2 .held)) (h2 .list)) w (Memᴰ·cast (sym (t .2) ∙ same (t .0) (x .0) (x .2)) (Memᴰ·map (view v (h2 .held)) (x .1))) (t .4)
 
         back : (w : FugueSpan) → Mem w (sees v h2) → (u : FugueSpan) × Mem u (h1 .list) × (view v (h1 .held) u ≡ w) × (key1 (ref u) ≡ key2 (ref u)) × (notFuture w ≡ true)
         back w m =
             let t : (a : FugueSpan) × Mem a (h2 .list) × (view v (h2 .held) a ≡ w) × (num a < count n v (a .id .peer)) × (notFuture w ≡ true) = seen-from n done2 h2 key2 r2 v w m in
             let b : num (t .0) < count n v (t .0 .id .peer) = t .3 in
-            let u : (u : FugueSpan) × Mem u (h1 .list) × (plain u ≡ plain (t .0)) × (key1 (ref u) ≡ key2 (ref u)) = units-back (t .0) (t .1) (omega (arith, held (t .0 .id .peer))) in
+            let u : Back (t .0) = units-back (t .0) (t .1) (omega (arith, held (t .0 .id .peer))) in
             (u .0, u .1, same (u .0) (t .0) (u .2) ∙ t .2, u .3, t .4)
 
         from : (w : FugueSpan) → Mem w (sees v h2) → Mem w (sees v h1)
@@ -261,11 +265,11 @@ module _ (n : ℕ) (done1 done2 : List Edit) (h1 h2 : History) (key1 key2 : OptI
           go (pass a t) (pass b t2) = a ∙ sym b
           go (fail a nt) (fail b nt2) = a ∙ sym b
           go (pass a t) (fail b nt) =
-              let w : (x : FugueSpan) × Mem x (h2 .list) × (plain (t .0) ≡ plain x) × (key1 (ref (t .0)) ≡ key2 (ref (t .0))) = ag .units (t .0) (t .1) (or-of-d u m (t .0) (t .2)) in
+              let w : Twin (t .0) = ag .units (t .0) (t .1) (or-of-d u m (t .0) (t .2)) in
               let q : Same (t .0) (w .0) = plain-same (t .0) (w .0) (w .2) in
               absurd (nt (w .0, w .1, ap At (sym (q .id)) ∙ (t .2 ∙ s .right), sym (q .left) ∙ (t .3 ∙ s .left)))
           go (fail a nt) (pass b t) =
-              let w : (x : FugueSpan) × Mem x (h1 .list) × (plain x ≡ plain (t .0)) × (key1 (ref x) ≡ key2 (ref x)) = units-back (t .0) (t .1) (or-of-d u m (t .0) (t .2 ∙ sym (s .right))) in
+              let w : Back (t .0) = units-back (t .0) (t .1) (or-of-d u m (t .0) (t .2 ∙ sym (s .right))) in
               let q : Same (w .0) (t .0) = plain-same (w .0) (t .0) (w .2) in
               absurd (nt (w .0, w .1, ap At (q .id) ∙ (t .2 ∙ sym (s .right)), q .left ∙ (t .3 ∙ sym (s .left))))
 
@@ -296,7 +300,7 @@ module _ (n : ℕ) (done1 done2 : List Edit) (h1 h2 : History) (key1 key2 : OptI
       natE = r1 .natural e me
 
       -- a unit of e, when its origin left has the same key in both
-      unit-step : (u : FugueSpan) → Mem u (h1 .list) → Made h1 e u → key1 (ol u) ≡ key2 (ol u) → (v : FugueSpan) × Mem v (h2 .list) × (plain u ≡ plain v) × (key1 (ref u) ≡ key2 (ref u))
+      unit-step : (u : FugueSpan) → Mem u (h1 .list) → Made h1 e u → key1 (ol u) ≡ key2 (ol u) → Twin u
       unit-step u k m olKey = (v, mv, plains, keys)
         where
           t : (w : FugueSpan) × Mem w (h2 .list) × (w .id ≡ incId (e .id) (m .k))
@@ -344,7 +348,7 @@ module _ (n : ℕ) (done1 done2 : List Edit) (h1 h2 : History) (key1 key2 : OptI
           keys : key1 (ref u) ≡ key2 (ref u)
           keys = hung-same key1 key2 (r1 .good .wf u k) hungV (pr-same u v same m) olKey (pr-key u k m)
 
-      unit-of-e : (i : ℕ) (u : FugueSpan) → Mem u (h1 .list) → (m : Made h1 e u) → m .k ≡ i → (v : FugueSpan) × Mem v (h2 .list) × (plain u ≡ plain v) × (key1 (ref u) ≡ key2 (ref u))
+      unit-of-e : (i : ℕ) (u : FugueSpan) → Mem u (h1 .list) → (m : Made h1 e u) → m .k ≡ i → Twin u
       unit-of-e zero u k m z = unit-step u k m (go (r1 .good .olIn u k))
         where
           go : In (ol u) (h1 .list) → key1 (ol u) ≡ key2 (ol u)
@@ -352,7 +356,7 @@ module _ (n : ℕ) (done1 done2 : List Edit) (h1 h2 : History) (key1 key2 : OptI
           go (inr t) = subst (λ (y : OptId). key1 y ≡ key2 y) (t .2) (ag .units (t .0) (t .1) (ol-of-d u m z (t .0) (t .2)) .3)
       unit-of-e (suc j) u k m z = unit-step u k m (go (r1 .good .olIn u k) (unit-of-e j))
         where
-          go : In (ol u) (h1 .list) → ((w : FugueSpan) → Mem w (h1 .list) → (q : Made h1 e w) → q .k ≡ j → (v : FugueSpan) × Mem v (h2 .list) × (plain w ≡ plain v) × (key1 (ref w) ≡ key2 (ref w))) → key1 (ol u) ≡ key2 (ol u)
+          go : In (ol u) (h1 .list) → ((w : FugueSpan) → Mem w (h1 .list) → (q : Made h1 e w) → q .k ≡ j → Twin w) → key1 (ol u) ≡ key2 (ol u)
           go (inl x) ih = subst (λ (y : OptId). key1 y ≡ key2 y) (sym x) none-key
           go (inr t) ih =
               let i : t .0 .id ≡ incId (e .id) j = at-id (t .2 ∙ made-later m j z) in
@@ -380,7 +384,7 @@ module _ (n : ℕ) (done1 done2 : List Edit) (h1 h2 : History) (key1 key2 : OptI
         tooks = λ (x : Held) (m : MemH x (h1 .held)) (k : MemE (x .edit) (e ∷ d)). goT x m (List·Memᴰ·cases-cons k);
       }
         where
-          go : (u : FugueSpan) → Mem u (h1 .list) → num u < cnt (clock n) (e ∷ d) (u .id .peer) → Dec (num u < cnt (clock n) d (u .id .peer)) → (v : FugueSpan) × Mem v (h2 .list) × (plain u ≡ plain v) × (key1 (ref u) ≡ key2 (ref u))
+          go : (u : FugueSpan) → Mem u (h1 .list) → num u < cnt (clock n) (e ∷ d) (u .id .peer) → Dec (num u < cnt (clock n) d (u .id .peer)) → Twin u
           go u m b (yes y) = ag .units u m y
           go u m b (no x) =
               let k : (u .id .peer ≡ e .id .peer) × (first e ≤ num u) × (num u < first e + sizeOf (e .act)) = cnt-other n d e (u .id .peer) (num u) (fits .own) b x in

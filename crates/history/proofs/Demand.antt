@@ -25,7 +25,7 @@ use Rattle.history.specs.Arrive.{start, replay}
 use Rattle.history.specs.Tree.{sortRank}
 use Rattle.history.specs.Valid.{valid}
 use Rattle.history.specs.Codes.{onUnits, stored, made, checkoutCode, checkoutOf}
-use Rattle.history.specs.Demand.{InSet, firstOf, WellFormedSet, Inside, Limits, ArrivalOrder, wholeOf, noReal, sum, Promise}
+use Rattle.history.specs.Demand.{InSet, firstOf, WellFormedSet, Inside, Limits, ArrivalOrder, arriveAll, wholeOf, noReal, sum, Promise}
 use Rattle.history.proofs.Context.{count, clock, holds-known, count-known, count-unknown, base}
 use Rattle.history.proofs.Run.{MemH, Run}
 use Rattle.history.proofs.Start.{run-start}
@@ -54,35 +54,35 @@ module _ (n spans targets : ℕ) (S : List Edit) (wf : WellFormedSet S) (lim : L
   abbrev D : List Edit
   D = doneOf (clock n) (base n) fs
 
-  final : (key : OptId → Key) × Run n (doneOf (clock n) (base n) fs) (replay (start n) fs) key
+  final : (key : OptId → Key) × Run n D h key
   final = run n S wf inside fs ord
 
   done : Done n spans targets S wf lim fs ord [] (base n) (start n) fs
   done = all-done n spans targets S wf lim fs ord fs [] (base n) (start n) (run-start n .0) (run-start n .1) (store-start n (omega (arith, lim .units))) refl (arrives n S wf inside fs ord)
 
-  st : Store n (doneOf (clock n) (base n) fs) fs (replay (start n) fs)
+  st : Store n D fs h
   st = done .store
 
   -- the version has what the history holds
-  held : (p : ℕ) → countOf v p ≡ heldCount (replay (start n) fs .held) p
+  held : (p : ℕ) → countOf v p ≡ heldCount (h .held) p
   held p = whole .counts p ∙ (sym (totals n spans targets S wf lim fs ord (λ (e : Edit). cond (eqb (e .id .peer) p) (size e) 0))
-      ∙ (ap (sum (λ (e : Edit). cond (eqb (e .id .peer) p) (size e) 0)) (sym (st .order)) ∙ sym (held-sum (replay (start n) fs .held) p)))
+      ∙ (ap (sum (λ (e : Edit). cond (eqb (e .id .peer) p) (size e) 0)) (sym (st .order)) ∙ sym (held-sum (h .held) p)))
 
-  counts : (p : ℕ) → count n v p ≡ cnt (clock n) (doneOf (clock n) (base n) fs) p
+  counts : (p : ℕ) → count n v p ≡ cnt (clock n) D p
   counts p = go (eqb-test p UNKNOWN-PEER)
     where
-      go : Test (eqb p UNKNOWN-PEER) (p ≡ UNKNOWN-PEER) → count n v p ≡ cnt (clock n) (doneOf (clock n) (base n) fs) p
-      go (pass b d) = ap (count n v) d ∙ (count-unknown n v ∙ (sym (final .1 .base) ∙ ap (cnt (clock n) (doneOf (clock n) (base n) fs)) (sym d)))
+      go : Test (eqb p UNKNOWN-PEER) (p ≡ UNKNOWN-PEER) → count n v p ≡ cnt (clock n) D p
+      go (pass b d) = ap (count n v) d ∙ (count-unknown n v ∙ (sym (final .1 .base) ∙ ap (cnt (clock n) D) (sym d)))
       go (fail b d) = count-known n v p d ∙ (held p ∙ st .counts p d)
 
-  of-set : (x : Held) → MemH x (replay (start n) fs .held) → InSet (x .edit) S
-  of-set = held-in n spans targets S wf lim fs ord fs (doneOf (clock n) (base n) fs) (replay (start n) fs) (final .0) (final .1) st [] (mathlib.Core.List.append-nil fs)
+  of-set : (x : Held) → MemH x (h .held) → InSet (x .edit) S
+  of-set = held-in n spans targets S wf lim fs ord fs D h (final .0) (final .1) st [] (mathlib.Core.List.append-nil fs)
 
   -- 6 and 7 are not given
-  named-v : named (replay (start n) fs .held) v ≡ true
-  named-v = named-of (replay (start n) fs .held) v (whole .pairs) (λ (k : Count) (m : List·Memᴰ k v). omega (arith, pair-some v (whole .pairs) k m .1, held (k .peer)))
+  named-v : named (h .held) v ≡ true
+  named-v = named-of (h .held) v (whole .pairs) (λ (k : Count) (m : List·Memᴰ k v). omega (arith, pair-some v (whole .pairs) k m .1, held (k .peer)))
 
-  ctx-le : (x : Held) → MemH x (replay (start n) fs .held) → (k : Count) → List·Memᴰ k (x .edit .context) → number (k .many) ≤ countOf v (k .peer)
+  ctx-le : (x : Held) → MemH x (h .held) → (k : Count) → List·Memᴰ k (x .edit .context) → number (k .many) ≤ countOf v (k .peer)
   ctx-le x m k j =
       let me : InSet (x .edit) S = of-set x m in
       let kn : ¬ (k .peer ≡ UNKNOWN-PEER) = pair-known n S wf (x .edit) me k j in
@@ -96,36 +96,36 @@ module _ (n spans targets : ℕ) (S : List Edit) (wf : WellFormedSet S) (lim : L
         held (k .peer),
       )
 
-  whole-le : (x : Held) → MemH x (replay (start n) fs .held) → firstOf (x .edit) + size (x .edit) ≤ countOf v (x .edit .id .peer)
-  whole-le x m = omega (arith, in-range (clock n) (doneOf (clock n) (base n) fs) (final .1 .causal) (x .edit) (final .1 .tooks x m .0) .0, st .counts (x .edit .id .peer) (sound n S wf (x .edit) (of-set x m) .0), held (x .edit .id .peer))
+  whole-le : (x : Held) → MemH x (h .held) → firstOf (x .edit) + size (x .edit) ≤ countOf v (x .edit .id .peer)
+  whole-le x m = omega (arith, in-range (clock n) D (final .1 .causal) (x .edit) (final .1 .tooks x m .0) .0, st .counts (x .edit .id .peer) (sound n S wf (x .edit) (of-set x m) .0), held (x .edit .id .peer))
 
-  closed-v : closed (replay (start n) fs .held) v ≡ true
-  closed-v = closed-whole n S wf (replay (start n) fs .held) v of-set ctx-le whole-le
+  closed-v : closed (h .held) v ≡ true
+  closed-v = closed-whole n S wf (h .held) v of-set ctx-le whole-le
 
-  back : onUnits (stored (replay (start n) fs)) ≡ replay (start n) fs
-  back = read-back n (doneOf (clock n) (base n) fs) fs (replay (start n) fs) (final .0) (final .1) st
+  back : onUnits (stored h) ≡ h
+  back = read-back n D fs h (final .0) (final .1) st
 
-  at-length : length (unitsAt v (replay (start n) fs)) ≡ length (replay (start n) fs .list)
+  at-length : length (unitsAt v h) ≡ length (h .list)
   unfolding unitsAt
-  at-length = length-map (replay (start n) fs .list) (Co.unitAt v (replay (start n) fs .held))
+  at-length = length-map (h .list) (Co.unitAt v (h .held))
 
-  fits-v : fits spans (join (unitsAt v (onUnits (stored (replay (start n) fs))))) ≡ true
+  fits-v : fits spans (join (unitsAt v (onUnits (stored h)))) ≡ true
   unfolding fits
-  fits-v = ap (λ (z : History). leb (length (join (unitsAt v z))) spans) back ∙ le-leb (length (join (unitsAt v (replay (start n) fs)))) spans
-      (omega (arith, join-length (unitsAt v (replay (start n) fs)), at-length, st .many, totals n spans targets S wf lim fs ord (λ (e : Edit). made (e .act)), lim .spanRoom))
+  fits-v = ap (λ (z : History). leb (length (join (unitsAt v z))) spans) back ∙ le-leb (length (join (unitsAt v h))) spans
+      (omega (arith, join-length (unitsAt v h), at-length, st .many, totals n spans targets S wf lim fs ord (λ (e : Edit). made (e .act)), lim .spanRoom))
 
-  code : checkoutCode spans targets (stored (replay (start n) fs)) v ≡ 0
+  code : checkoutCode spans targets (stored h) v ≡ 0
   unfolding checkoutCode stored
-  code = four (valid spans targets (stored (replay (start n) fs))) (named (replay (start n) fs .held) v) (closed (replay (start n) fs .held) v) (fits spans (join (unitsAt v (onUnits (stored (replay (start n) fs))))))
-      (no-15 n spans targets S wf lim fs ord fs (doneOf (clock n) (base n) fs) (replay (start n) fs) (final .0) (final .1) st [] (mathlib.Core.List.append-nil fs)) named-v closed-v fits-v
+  code = four (valid spans targets (stored h)) (named (h .held) v) (closed (h .held) v) (fits spans (join (unitsAt v (onUnits (stored h)))))
+      (no-15 n spans targets S wf lim fs ord fs D h (final .0) (final .1) st [] (mathlib.Core.List.append-nil fs)) named-v closed-v fits-v
 
-  list : expand (checkoutOf spans targets (stored (replay (start n) fs)) v .1 .list) ≡ unitsAt v (replay (start n) fs)
+  list : expand (checkoutOf spans targets (stored h) v .1 .list) ≡ unitsAt v h
   unfolding checkoutOf
-  list = ap (λ (k : ℕ). expand ((cond (eqb k 0) (stored (checkout v (onUnits (stored (replay (start n) fs))))) (stored (replay (start n) fs))) .list)) code
+  list = ap (λ (k : ℕ). expand ((cond (eqb k 0) (stored (checkout v (onUnits (stored h)))) (stored h)) .list)) code
       ∙ (ap (λ (z : History). expand (stored (checkout v z) .list)) back ∙ units)
     where
-      units : expand (stored (checkout v (replay (start n) fs)) .list) ≡ unitsAt v (replay (start n) fs)
-      units = unfold stored checkout in expand-join (unitsAt v (replay (start n) fs)) (all-of (unitsAt v (replay (start n) fs)) (units-at v (replay (start n) fs) (st .units)))
+      units : expand (stored (checkout v h) .list) ≡ unitsAt v h
+      units = unfold stored checkout in expand-join (unitsAt v h) (all-of (unitsAt v h) (units-at v h (st .units)))
 
   pub demand3 : Promise n spans targets S fs
   demand3 = record {
@@ -134,3 +134,9 @@ module _ (n spans targets : ℕ) (S : List Edit) (wf : WellFormedSet S) (lim : L
     same = ap (λ (z : History). map noReal (expand (checkoutOf spans targets z v .1 .list))) (done .left) ∙ (ap (map noReal) list ∙ units-same n S wf inside fs ord v counts);
     walked = tree-walk n S wf inside fs ord v;
   }
+
+-- so any two arrival orders end with the same units in the same order
+pub orders-agree : (n spans targets : ℕ) (S : List Edit) → WellFormedSet S → Limits n spans targets S → Inside (start n) (sortRank S S) → (fs gs : List Edit) → ArrivalOrder S fs → ArrivalOrder S gs
+    → map noReal (expand (checkoutOf spans targets (arriveAll spans targets (stored (start n)) fs) (wholeOf S) .1 .list))
+    ≡ map noReal (expand (checkoutOf spans targets (arriveAll spans targets (stored (start n)) gs) (wholeOf S) .1 .list))
+orders-agree n spans targets S wf lim inside fs gs a b = demand3 n spans targets S wf lim inside fs a .same ∙ sym (demand3 n spans targets S wf lim inside gs b .same)

@@ -2,7 +2,8 @@
 use Prim.Native.Nat.{ℕ}
 use mathlib.Core.Path.{_≡_, sym, ap, subst, _∙_}
 use mathlib.Core.Logic.{_⊎_, inl, inr}
-use mathlib.Core.List.{List, [], _∷_, _++_, map, List·Memᴰ·append-cases}
+use mathlib.Core.Bool.{true}
+use mathlib.Core.List.{List, [], _∷_, _++_, map, List·Memᴰ·append-cases, Memᴰ·append-right}
 use Rattle.span.specs.declared.ids.OptId.{OptId}
 use Rattle.fugue.specs.Tree.{walk, sortId}
 use Rattle.fugue.proofs.Keys.{Key}
@@ -11,9 +12,11 @@ use Rattle.history.specs.Edit.{Version, Edit, History}
 use Rattle.history.specs.Checkout.{unitsAt}
 use Rattle.history.specs.Arrive.{start, replay}
 use Rattle.history.specs.Tree.{sortRank, treeOf}
+use Rattle.history.specs.Codes as Codes
 use Rattle.history.specs.Demand.{InSet, WellFormedSet, Inside, ArrivalOrder, noReal}
 use Rattle.history.proofs.Plain.{view-at}
-use Rattle.history.proofs.Context.{count, clock, base}
+use Rattle.history.proofs.Context.{count, clock, base, before-known}
+use Rattle.history.proofs.Stable.{inside-sees}
 use Rattle.history.proofs.Run.{MemE, Run}
 use Rattle.history.proofs.Start.{run-start}
 use Rattle.history.proofs.Converge.{Arrives, run-all, accept, arrives-of, whole-same, at-is-walk, scan-is-walk}
@@ -82,3 +85,11 @@ module _ (n : ℕ) (S : List Edit) (wf : WellFormedSet S) (inside : Inside (star
 
   pub tree-walk : (v : Version) → unitsAt v (treeOf n S) ≡ walk (sortId (unitsAt v (treeOf n S)))
   tree-walk v = subst (λ (h : History). unitsAt v h ≡ walk (sortId (unitsAt v h))) (sym tree-is) (at-is-walk n (doneOf (clock n) (base n) (sortRank S S)) (replay (start n) (sortRank S S)) (own-run .0) (own-run .1) v)
+
+  -- the premise on positions, read off the finished tree: each is inside the list visible at its context
+  pub inside-at-context : (e : Edit) → InSet e S → Codes.inside (e .act) (e .at) (unitsAt (e .context) (treeOf n S)) ≡ true
+  inside-at-context e m =
+      ap (λ (h : History). Codes.inside (e .act) (e .at) (unitsAt (e .context) h)) tree-is ∙
+      (inside-sees (e .context) (replay (start n) (sortRank S S)) (e .act) (e .at) ∙
+      (ap (Codes.inside (e .act) (e .at)) (sym (before-known e (replay (start n) (sortRank S S)) (sound n S wf e m .0))) ∙
+      own-run .1 .fit e (in-done e (Memᴰ·append-right (base n) m))))

@@ -68,6 +68,7 @@ pub record WellFormedSet (S : List Edit) : Type 0 where
   pub earlier : (e : Edit) → InSet e S → firstOf e ≤ countOf (e .context) (e .id .peer)
 
 -- each position, with a delete's length, is inside the list visible at its context: edit by edit in the set's own order, as the tree alone has it
+-- (so it is in the finished tree too: `inside-at-context` in proofs/OnUnits)
 unfoldable pub Inside : History → List Edit → Type 0
 Inside h [] = Unit {0}
 Inside h (e ∷ es) = (inside (e .act) (e .at) (unitsAt (e .context) h) ≡ true) × Inside (treeArrive h e) es
