@@ -133,7 +133,7 @@ unfolding distinctIds Distinct
 distinct-of [] e = tt
 distinct-of (u ∷ us) e = let w = and-true (not (memId (At (u .id)) us)) (distinctIds us) e in (not-true (memId (At (u .id)) us) (w .0), distinct-of us (w .1))
 
-of-distinct : (us : List FugueSpan) → Distinct us → distinctIds us ≡ true
+pub of-distinct : (us : List FugueSpan) → Distinct us → distinctIds us ≡ true
 unfolding distinctIds Distinct
 of-distinct [] d = refl
 of-distinct (u ∷ us) d = ap₂ (λ (a b : Bool). not a && b) (d .0) (of-distinct us (d .1))
