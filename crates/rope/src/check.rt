@@ -12,6 +12,7 @@ use crate::find::has;
 use crate::find::holds;
 use crate::order::order;
 use crate::order::origins_sorted;
+use crate::order::twice;
 use crate::place::len_of;
 use span::ids::OptId;
 use span::span::FugueSpan;
@@ -120,7 +121,8 @@ fn plain(s: &[u8], n: usize) -> bool
     origins(s, n)
 }
 
-// The same by the order of the ids, in n log n. Where the order is not one of all rows in which no ids overlap, the plain form answers.
+// The same by the order of the ids, in n log n. The plain form answers where the sort gave no order and no clash: that it always gives one is
+// not proved, and nothing rests on it.
 fn ordered(s: &[u8], n: usize) -> bool
     requires { ⌜ (n * 72 ≤ length (now s)) × AllOk (rows n (now s)) × (n ≤ 65536) ⌝ }
     ensures { λ r. ⌜ r ≡ (apartRows [] (rows n (now (s .entry))) && originsNamed (rows n (now (s .entry))) (expand (rows n (now (s .entry))))) ⌝ }
@@ -129,6 +131,8 @@ fn ordered(s: &[u8], n: usize) -> bool
     let mut place = [0u16; 65536];
     if order(s, n, &mut idx, &mut place) {
         origins_sorted(s, n, &idx)
+    } else if twice(s, n, &idx) {
+        false
     } else {
         plain(s, n)
     }
