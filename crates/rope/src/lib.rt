@@ -6,6 +6,7 @@ pub mod clear;
 pub mod edit;
 pub mod find;
 pub mod insert;
+pub mod order;
 pub mod place;
 pub mod query;
 pub mod seek;
