@@ -5,7 +5,8 @@ use mathlib.Core.Bool.{Bool, true, false, cond, true≢false}
 use mathlib.Core.List.{List}
 use native.Mathlib.Omega.{arith}
 use lib.Dec.{eqb}
-use lib.ListN.{length, drop}
+use lib.ListN.{length, take, drop, length-drop}
+use lib.Seq.{length-take-le}
 use borrow.Author.Tests.{eqb-true, eqb-false}
 use Rattle.words.specs.Le.{bytesOf, put}
 use Rattle.span.specs.declared.span.FugueSpan.{FugueSpan}
@@ -16,7 +17,6 @@ use Rattle.span.specs.Span.{spanCode}
 use Rattle.span.specs.Units.{expand, join}
 use Rattle.store.specs.Row.{rows}
 use Rattle.rope.specs.declared.insert.Plan.{Plan}
-use Rattle.rope.specs.declared.insert.Plan.the-variants.{Join, Own, Cut}
 use Rattle.rope.specs.Place.{insertUnits}
 use Rattle.rope.specs.Change.{clearUnits}
 use Rattle.rope.specs.Store.{count, room, spansOf, wellFormed, isState, stateCode}
@@ -25,16 +25,10 @@ use Rattle.rope.specs.Spans.{AllOk, Stored, Ready}
 use Rattle.rope.specs.Plans.{planned, planRows, Can, Planned}
 use Rattle.rope.specs.Edits.{Written, Edited, insertNumber, insertList, insertFirst, Asked, Writable}
 use Rattle.rope.proofs.WellFormed.{formed-of}
-use Rattle.rope.proofs.States.{part, part-rest, part-length, part-spans, room-most, room-long, State, state-of, code-state, code-none}
+use Rattle.rope.proofs.States.{part, part-rest, part-spans, room-most, room-long, State, state-of, code-state, code-none}
 use Rattle.rope.proofs.Planning.{plan-length}
-use Rattle.rope.proofs.Editing.{back, written-back, edited-refused, edited-done, edited-as}
+use Rattle.rope.proofs.Editing.{rows-front, can-front, back, written-back, edited-refused, edited-done, edited-as}
 use Rattle.rope.proofs.Admits.{code-span, code-first, code-room, code-done, ready-of}
-
-plan-small : (p : Plan) (n : ℕ) → planRows p n ≤ n + 2
-unfolding planRows
-plan-small (Join r b) n = omega arith
-plan-small (Own r y) n = omega arith
-plan-small (Cut r i y) n = omega arith
 
 -- ---- a well formed store
 
@@ -55,25 +49,58 @@ module _ (s : List ℕ) (st : isState s ≡ true) where
     pub state-formed : wellFormed (spansOf s) ≡ true
     state-formed = ap wellFormed (sym rows-are) ∙ state-stored .formed
 
+    pub state-fits : n ≤ room s
+    state-fits = omega (arith, en, st-of .fits)
+
     pub state-few : n ≤ 65536
     state-few = omega (arith, en, st-of .fits, room-most s)
 
     pub state-rows : (n * 72 ≤ length (part s)) × (n ≤ 65536)
     state-rows = (state-stored .long, state-few)
 
-    pub state-ok : (n * 72 ≤ length (part s)) × AllOk (rows n (part s))
-    state-ok = (state-stored .long, formed-of (rows n (part s)) (state-stored .formed) .each)
+    pub state-each : AllOk (spansOf s)
+    state-each = formed-of (spansOf s) state-formed .each
+
+-- ---- the room that is lent, where it ends at e
+
+module _ (s : List ℕ) (h : 72 ≤ length s) (e : ℕ) (ee : e ≡ 72 + room s * 72) where
+  abbrev pub lent : List ℕ
+  lent = take (e - 72) (drop 72 s)
+
+  bytes-are : e - 72 ≡ room s * 72
+  bytes-are = omega (arith, ee)
+
+  bytes-fit : e - 72 ≤ length (drop 72 s)
+  bytes-fit = omega (arith, bytes-are, room-long s, length-drop 72 s)
+
+  pub end-fits : e ≤ length s
+  end-fits = omega (arith, h, ee, room-long s)
+
+  pub lent-long : length lent ≡ e - 72
+  lent-long = length-take-le (e - 72) (drop 72 s) bytes-fit
+
+  bytes-most : e - 72 ≤ 4718592
+  bytes-most = omega (arith, bytes-are, room-most s)
+
+  pub lent-rows : (n : ℕ) → n ≤ room s → rows n lent ≡ rows n (drop 72 s)
+  lent-rows n k = rows-front n (e - 72) (drop 72 s) (omega (arith, bytes-are, k)) bytes-fit
+
+  pub lent-back : (q t : List ℕ) (k : ℕ) (l : List FugueSpan) → length q ≡ length lent → k ≤ room s → t ≡ put 0 (bytesOf 8 k) (back s q (e - 72) h) → rows k q ≡ l → Written l s t
+  lent-back q t k l len few et f = written-back s q t (e - 72) k l h (len ∙ lent-long) bytes-most (omega (arith, bytes-are, few)) et f
 
 -- ---- a plan carried out
 
-module _ (p : Plan) (n : ℕ) (s : List ℕ) (w : Writable p n s) where
-  pub write-asks : (n * 72 ≤ length (part s)) × (n ≤ 65536) × Can p n (part s) × (planRows p n * 72 ≤ length (part s))
-  write-asks = (omega (arith, part-length s, w .long), w .few, subst (Can p n) (sym (part-rest s)) (w .can), omega (arith, part-length s, w .room))
+module _ (p : Plan) (n : ℕ) (s : List ℕ) (w : Writable p n s) (e : ℕ) (ee : e ≡ 72 + room s * 72) where
+  pub write-asks : (n * 72 ≤ length (lent s (w .head) e ee)) × (n ≤ 65536) × Can p n (lent s (w .head) e ee) × (planRows p n * 72 ≤ length (lent s (w .head) e ee))
+  write-asks =
+      let b : e - 72 ≡ room s * 72 = bytes-are s (w .head) e ee in
+      let l = lent-long s (w .head) e ee in
+      (omega (arith, b, l, w .fits), omega (arith, w .fits, room-most s), can-front p n (e - 72) (drop 72 s) (omega (arith, b, w .fits)) (bytes-fit s (w .head) e ee) (w .can), omega (arith, b, l, w .after))
 
-  pub write-done : (q t : List ℕ) (k : ℕ) → rows (planRows p n) q ≡ planned p (rows n (part s)) → k ≡ planRows p n → t ≡ put 0 (bytesOf 8 k) (back s q (w .head)) → Written (planned p (rows n (drop 72 s))) s t
-  write-done q t k e ek et =
-      written-back s q t k (planned p (rows n (drop 72 s))) (w .head) (omega (arith, ek, plan-small p n, w .few)) et
-      (ap (λ (m : ℕ). rows m q) ek ∙ (e ∙ ap (λ (b : List ℕ). planned p (rows n b)) (part-rest s)))
+  pub write-done : (q t : List ℕ) (k : ℕ) → length q ≡ length (lent s (w .head) e ee) → rows (planRows p n) q ≡ planned p (rows n (lent s (w .head) e ee)) → k ≡ planRows p n → t ≡ put 0 (bytesOf 8 k) (back s q (e - 72) (w .head)) → Written (planned p (rows n (drop 72 s))) s t
+  write-done q t k len f ek et =
+      lent-back s (w .head) e ee q t k (planned p (rows n (drop 72 s))) len (omega (arith, ek, w .after)) et
+      (ap (λ (m : ℕ). rows m q) ek ∙ (f ∙ ap (planned p) (lent-rows s (w .head) e ee n (w .fits))))
 
 -- ---- insert, where the store and the span are well formed
 
@@ -118,10 +145,9 @@ module _ (s : List ℕ) (at : ℕ) (x : FugueSpan) (st : isState s ≡ true) (fi
         span-writable h =
             record {
               head = state-head s st;
-              few = state-few s st n en;
-              long = omega (arith, state-head s st, part-length s, state-rows s st n en .0);
+              fits = state-fits s st n en;
               can = subst (Can p n) (part-rest s) (pl .can);
-              room = omega (arith, state-head s st, room-long s, h, er, em);
+              after = omega (arith, h, er, em);
             }
 
         pub span-done : m ≤ most → (t : List ℕ) → Written (planned p (rows n (drop 72 s))) s t → Edited code new 0 s t
@@ -212,11 +238,20 @@ module _ (s : List ℕ) where
   pub clear-refused : isState s ≡ false → Edited (stateCode s) clear 15 s s
   clear-refused e = edited-refused (stateCode s) clear 15 s (sym (code-none s e)) (λ z. omega (arith, z))
 
-  pub clear-done : (st : isState s ≡ true) (n : ℕ) → n ≡ count s → (q t : List ℕ) (k : ℕ) → (rows k q ≡ join (clearUnits (expand (rows n (part s))))) × (k ≤ n) → t ≡ put 0 (bytesOf 8 k) (back s q (state-head s st)) → Edited (stateCode s) clear 0 s t
-  clear-done st n en q t k e et =
-      edited-done (stateCode s) clear 0 s t refl (code-state s st)
-      (written-back s q t k clear (state-head s st) (omega (arith, e .1, state-few s st n en)) et
-      (e .0 ∙ ap (λ (l : List FugueSpan). join (clearUnits (expand l))) (rows-are s st n en)))
+  module _ (st : isState s ≡ true) (n : ℕ) (en : n ≡ count s) (e : ℕ) (ee : e ≡ 72 + room s * 72) where
+    lent-spans : rows n (lent s (state-head s st) e ee) ≡ spansOf s
+    unfolding spansOf
+    lent-spans = lent-rows s (state-head s st) e ee n (state-fits s st n en) ∙ ap (λ (k : ℕ). rows k (drop 72 s)) en
+
+    pub clear-asks : (n * 72 ≤ length (lent s (state-head s st) e ee)) × AllOk (rows n (lent s (state-head s st) e ee))
+    clear-asks =
+        (omega (arith, lent-long s (state-head s st) e ee, bytes-are s (state-head s st) e ee, state-fits s st n en), subst AllOk (sym lent-spans) (state-each s st n en))
+
+    pub clear-done : (q t : List ℕ) (k : ℕ) → length q ≡ length (lent s (state-head s st) e ee) → (rows k q ≡ join (clearUnits (expand (rows n (lent s (state-head s st) e ee))))) × (k ≤ n) → t ≡ put 0 (bytesOf 8 k) (back s q (e - 72) (state-head s st)) → Edited (stateCode s) clear 0 s t
+    clear-done q t k len f et =
+        edited-done (stateCode s) clear 0 s t refl (code-state s st)
+        (lent-back s (state-head s st) e ee q t k clear len (omega (arith, f .1, state-fits s st n en)) et
+        (f .0 ∙ ap (λ (l : List FugueSpan). join (clearUnits (expand l))) lent-spans))
 
   pub clear-is : isState s ≡ true → (r : ℕ) (t : List ℕ) → Edited (stateCode s) clear r s t → (r ≡ clearOf (spansOf s) .0) × (spansOf t ≡ clearOf (spansOf s) .1)
   unfolding clearOf askCode

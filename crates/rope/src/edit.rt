@@ -1,6 +1,6 @@
 // The calls that edit a store in lent bytes. Each answers 0 or the number of the refusal, and a refused call keeps every byte.
 ghost use mathlib.Core.Path.{_≡_};
-ghost use Prim.Native.Nat.{_≤_};
+ghost use Prim.Native.Nat.{_+_, _*_};
 ghost use mathlib.Core.Bool.{true};
 ghost use lib.ListN.{drop};
 ghost use Rattle.span.specs.Span.{spanCode, newSpan};
@@ -80,12 +80,20 @@ pub fn first_code(s: &[u8], n: usize, units: usize, pos: u32, x: FugueSpan) -> u
     0
 }
 
+// Where the room that counts ends: only what stands before it is lent to be written.
+pub fn room_end(s: &[u8]) -> usize
+    ensures { λ r. ⌜ r ≡ 72 + room (now (s .entry)) * 72 ⌝ }
+{
+    72 + header::room(s) * 72
+}
+
 // A plan for the rows carried out, and their number set.
 pub fn write_plan(s: &mut [u8], n: usize, p: Plan)
     requires { ⌜ Writable p n (now s) ⌝ }
     ensures { λ _. ⌜ Written (planned p (rows n (drop 72 (now (s .entry))))) (now (s .entry)) (now (s .exit)) ⌝ }
 {
-    perform(&mut s[72..], n, p);
+    let end = room_end(s);
+    perform(&mut s[72..end], n, p);
     header::set_count(s, p.rows(n) as u64)
 }
 
@@ -97,7 +105,8 @@ pub fn clear_diff_status(s: &mut [u8]) -> u8
         return 15;
     }
     let n = header::count(s) as usize;
-    let k = clear_rows(&mut s[72..], n);
+    let end = room_end(s);
+    let k = clear_rows(&mut s[72..end], n);
     header::set_count(s, k as u64);
     0
 }
