@@ -78,8 +78,8 @@ pr-alike l m a x o = ap (λ (b : Bool). cond b o Nothing) (hasOl-alike l m a o x
 pub In-alike : (l m : List FugueSpan) → Alike l m → (r : OptId) → In r l → In r m
 In-alike l m a r (inl e) = inl e
 In-alike l m a r (inr t) =
-  let s : (u : FugueSpan) × Mem u m × Same u (t .0) = alike-mem m l (alike-sym l m a) (t .0) (t .1) in
-  inr (s .0, s .1, ap At (s .2 .id) ∙ t .2)
+    let s : (u : FugueSpan) × Mem u m × Same u (t .0) = alike-mem m l (alike-sym l m a) (t .0) (t .1) in
+    inr (s .0, s .1, ap At (s .2 .id) ∙ t .2)
 
 pub sorted-alike : (key : OptId → Key) (l m : List FugueSpan) → Alike l m → Sorted key l → Sorted key m
 sorted-alike key [] [] a s = tt
@@ -92,20 +92,29 @@ sorted-alike key (u ∷ l) (v ∷ m) a s = (λ (w : FugueSpan) (k : Mem w m). go
 
 pub good-alike : (key : OptId → Key) (l m : List FugueSpan) → Alike l m → Good key l → Good key m
 unfolding prOf
-good-alike key l m a g = record { noneKey = g .noneKey; sorted = sorted-alike key l m a (g .sorted);
-    wf = λ (w : FugueSpan) (k : Mem w m). wf′ w (alike-mem l m a w k); olIn = λ (w : FugueSpan) (k : Mem w m). ol′ w (alike-mem l m a w k);
-    orIn = λ (w : FugueSpan) (k : Mem w m). or′ w (alike-mem l m a w k); rooted = λ (w : FugueSpan) (k : Mem w m). ro′ w (alike-mem l m a w k) }
+good-alike key l m a g = record {
+  noneKey = g .noneKey;
+  sorted = sorted-alike key l m a (g .sorted);
+  wf = λ (w : FugueSpan) (k : Mem w m). wf′ w (alike-mem l m a w k);
+  olIn = λ (w : FugueSpan) (k : Mem w m). ol′ w (alike-mem l m a w k);
+  orIn = λ (w : FugueSpan) (k : Mem w m). or′ w (alike-mem l m a w k);
+  rooted = λ (w : FugueSpan) (k : Mem w m). ro′ w (alike-mem l m a w k);
+}
   where
     Was : FugueSpan → Type 0
     Was w = (u : FugueSpan) × Mem u l × Same u w
+
     wf′ : (w : FugueSpan) → Was w → Hung key (ol w) (w .id) (parentRight m (ol w) (or w))
     wf′ w t = subst (λ (z : OptId). Hung key (ol w) (w .id) z) (pr-alike l m a (ol w) (or w))
-      (subst (λ (z : OptId). Hung key (ol w) (w .id) (parentRight l (ol w) z)) (t .2 .right)
-      (subst₂ (λ (y : OptId) (i : Id). Hung key y i (parentRight l y (or (t .0)))) (t .2 .left) (t .2 .id) (g .wf (t .0) (t .1))))
+        (subst (λ (z : OptId). Hung key (ol w) (w .id) (parentRight l (ol w) z)) (t .2 .right)
+        (subst₂ (λ (y : OptId) (i : Id). Hung key y i (parentRight l y (or (t .0)))) (t .2 .left) (t .2 .id) (g .wf (t .0) (t .1))))
+
     ol′ : (w : FugueSpan) → Was w → In (ol w) m
     ol′ w t = subst (λ (z : OptId). In z m) (t .2 .left) (In-alike l m a (ol (t .0)) (g .olIn (t .0) (t .1)))
+
     or′ : (w : FugueSpan) → Was w → In (or w) m
     or′ w t = subst (λ (z : OptId). In z m) (t .2 .right) (In-alike l m a (or (t .0)) (g .orIn (t .0) (t .1)))
+
     ro′ : (w : FugueSpan) → Was w → Lt (key (ref w)) [] → ⊥
     ro′ w t h = g .rooted (t .0) (t .1) (subst (λ (z : Id). Lt (key (At z)) []) (sym (t .2 .id)) h)
 
@@ -114,19 +123,25 @@ good-alike key l m a g = record { noneKey = g .noneKey; sorted = sorted-alike ke
 hung-key : (key key′ : OptId → Key) {x : OptId} {p : Id} {r : OptId} → Hung key x p r → key′ x ≡ key x → key′ (At p) ≡ key (At p) → key′ r ≡ key r → Hung key′ x p r
 hung-key key key′ {x} {p} (hungR e) ex em er = hungR (em ∙ (e ∙ ap (λ (z : Key). z ++ sr p ∷ []) (sym ex)))
 hung-key key key′ {x} {p} (hungL s ms ir al er ek) ex em err =
-  hungL s ms ir al (err ∙ (er ∙ ap (λ (z : Key). z ++ s ∷ ms) (sym ex))) (em ∙ (ek ∙ ap (λ (z : Key). z ++ sl p ∷ []) (sym err)))
+    hungL s ms ir al (err ∙ (er ∙ ap (λ (z : Key). z ++ s ∷ ms) (sym ex))) (em ∙ (ek ∙ ap (λ (z : Key). z ++ sl p ∷ []) (sym err)))
 
 pub sorted-key : (key key′ : OptId → Key) (l : List FugueSpan) → ((w : FugueSpan) → Mem w l → key′ (ref w) ≡ key (ref w)) → Sorted key l → Sorted key′ l
 sorted-key key key′ [] f s = tt
-sorted-key key key′ (v ∷ l) f s =
-  (λ (w : FugueSpan) (m : Mem w l). subst₂ Lt (sym (f v (List·Memᴰ·head refl))) (sym (f w (List·Memᴰ·tail m))) (s .0 w m),
-   sorted-key key key′ l (λ (w : FugueSpan) (m : Mem w l). f w (List·Memᴰ·tail m)) (s .1))
+sorted-key key key′ (v ∷ l) f s = (
+  λ (w : FugueSpan) (m : Mem w l). subst₂ Lt (sym (f v (List·Memᴰ·head refl))) (sym (f w (List·Memᴰ·tail m))) (s .0 w m),
+  sorted-key key key′ l (λ (w : FugueSpan) (m : Mem w l). f w (List·Memᴰ·tail m)) (s .1),
+)
 
 pub good-key : (key key′ : OptId → Key) (l : List FugueSpan) → ((r : OptId) → In r l → key′ r ≡ key r) → Good key l → Good key′ l
 unfolding prOf
-good-key key key′ l f g = record { noneKey = f Nothing (inl refl) ∙ g .noneKey; sorted = sorted-key key key′ l fu (g .sorted);
+good-key key key′ l f g = record {
+  noneKey = f Nothing (inl refl) ∙ g .noneKey;
+  sorted = sorted-key key key′ l fu (g .sorted);
   wf = λ (v : FugueSpan) (m : Mem v l). hung-key key key′ (g .wf v m) (f (ol v) (g .olIn v m)) (fu v m) (f (parentRight l (ol v) (or v)) (pr-in key l (g .sorted) (ol v) (or v)));
-  olIn = g .olIn; orIn = g .orIn; rooted = λ (v : FugueSpan) (m : Mem v l) (h : Lt (key′ (ref v)) []). g .rooted v m (subst (λ (k : Key). Lt k []) (fu v m) h) }
+  olIn = g .olIn;
+  orIn = g .orIn;
+  rooted = λ (v : FugueSpan) (m : Mem v l) (h : Lt (key′ (ref v)) []). g .rooted v m (subst (λ (k : Key). Lt k []) (fu v m) h);
+}
   where
     fu : (w : FugueSpan) → Mem w l → key′ (ref w) ≡ key (ref w)
     fu w m = f (ref w) (inr (w, m, refl))

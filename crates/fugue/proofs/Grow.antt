@@ -30,6 +30,7 @@ mid A {m} {B} {w} h = go (List·Memᴰ·append-cases A h)
     go2 : (w ≡ m) ⊎ Mem w B → Mid w A m B
     go2 (inl e) = isM e
     go2 (inr k) = inB k
+
     go : Mem w A ⊎ Mem w (m ∷ B) → Mid w A m B
     go (inl k) = inA k
     go (inr k) = go2 (List·Memᴰ·cases-cons k)
@@ -46,11 +47,12 @@ In-widen A m B r (inl e) = inl e
 In-widen A m B r (inr t) = inr (t .0, widen A m B (t .0) (t .1), t .2)
 
 pub sorted-put : (key : OptId → Key) (A : List FugueSpan) (m : FugueSpan) (B : List FugueSpan) → Sorted key (A ++ B)
-  → ((w : FugueSpan) → Mem w A → Lt (key (ref w)) (key (ref m))) → ((w : FugueSpan) → Mem w B → Lt (key (ref m)) (key (ref w))) → Sorted key (A ++ m ∷ B)
+    → ((w : FugueSpan) → Mem w A → Lt (key (ref w)) (key (ref m))) → ((w : FugueSpan) → Mem w B → Lt (key (ref m)) (key (ref w))) → Sorted key (A ++ m ∷ B)
 sorted-put key [] m B s lo hi = (hi, s)
-sorted-put key (v ∷ A) m B s lo hi =
-  (λ (w : FugueSpan) (h : Mem w (A ++ m ∷ B)). go w (mid A h),
-   sorted-put key A m B (s .1) (λ (w : FugueSpan) (h : Mem w A). lo w (List·Memᴰ·tail h)) hi)
+sorted-put key (v ∷ A) m B s lo hi = (
+  λ (w : FugueSpan) (h : Mem w (A ++ m ∷ B)). go w (mid A h),
+  sorted-put key A m B (s .1) (λ (w : FugueSpan) (h : Mem w A). lo w (List·Memᴰ·tail h)) hi,
+)
   where
     go : (w : FugueSpan) → Mid w A m B → Lt (key (ref v)) (key (ref w))
     go w (inA k) = s .0 w (Memᴰ·append-left B k)
@@ -81,10 +83,9 @@ module _ (key : OptId → Key) where
   In-id l g x (inr t) = subst (λ (z : OptId). lastOf Nothing (key z) ≡ z) (t .2) (last-of key (g .wf (t .0) (t .1)))
 
   module _ (A B : List FugueSpan) (g : Good key (A ++ B)) (m : FugueSpan)
-    (hung : Hung key (ol m) (m .id) (prOf (A ++ B) m)) (iol : In (ol m) (A ++ B)) (ior : In (or m) (A ++ B))
-    (fresh : (w : FugueSpan) → Mem w (A ++ B) → ref w ≡ ref m → ⊥)
-    (lo : (w : FugueSpan) → Mem w A → Lt (key (ref w)) (key (ref m))) (hi : (w : FugueSpan) → Mem w B → Lt (key (ref m)) (key (ref w))) where
-
+      (hung : Hung key (ol m) (m .id) (prOf (A ++ B) m)) (iol : In (ol m) (A ++ B)) (ior : In (or m) (A ++ B))
+      (fresh : (w : FugueSpan) → Mem w (A ++ B) → ref w ≡ ref m → ⊥)
+      (lo : (w : FugueSpan) → Mem w A → Lt (key (ref w)) (key (ref m))) (hi : (w : FugueSpan) → Mem w B → Lt (key (ref m)) (key (ref w))) where
     not-new : (r : OptId) → In r (A ++ B) → ¬ (r ≡ ref m)
     not-new r (inl e) d = none≢at (sym e ∙ d)
     not-new r (inr t) d = fresh (t .0) (t .1) (t .2 ∙ d)
@@ -104,7 +105,7 @@ module _ (key : OptId → Key) where
     wf′ : (v : FugueSpan) → Mem v (A ++ B) ⊎ (v ≡ m) → Hung key (ol v) (v .id) (prOf (A ++ m ∷ B) v)
     wf′ v (inl k) = subst (λ (z : OptId). Hung key (ol v) (v .id) z) (same-pr v (g .orIn v k)) (g .wf v k)
     wf′ v (inr e) = subst (λ (u : FugueSpan). Hung key (ol u) (u .id) (prOf (A ++ m ∷ B) u)) (sym e)
-      (subst (λ (z : OptId). Hung key (ol m) (m .id) z) (same-pr m ior) hung)
+        (subst (λ (z : OptId). Hung key (ol m) (m .id) z) (same-pr m ior) hung)
 
     ol′ : (v : FugueSpan) → Mem v (A ++ B) ⊎ (v ≡ m) → In (ol v) (A ++ m ∷ B)
     ol′ v (inl k) = In-widen A m B (ol v) (g .olIn v k)
@@ -116,25 +117,27 @@ module _ (key : OptId → Key) where
 
     rooted-m : Lt (key (ref m)) [] → ⊥
     rooted-m h =
-      let b : Below key (ol m) (m .id) = below key hung in
-      rooted-app (key (ol m)) (b .s) (b .ls) (b .right) (In-rooted (A ++ B) g (ol m) iol) (subst (λ (k : Key). Lt k []) (b .shape) h)
+        let b : Below key (ol m) (m .id) = below key hung in
+        rooted-app (key (ol m)) (b .s) (b .ls) (b .right) (In-rooted (A ++ B) g (ol m) iol) (subst (λ (k : Key). Lt k []) (b .shape) h)
 
     rooted′ : (v : FugueSpan) → Mem v (A ++ B) ⊎ (v ≡ m) → Lt (key (ref v)) [] → ⊥
     rooted′ v (inl k) h = g .rooted v k h
     rooted′ v (inr e) h = rooted-m (subst (λ (u : FugueSpan). Lt (key (ref u)) []) e h)
 
     pub add-good : Good key (A ++ m ∷ B)
-    add-good = record { noneKey = g .noneKey; sorted = sorted-put key A m B (g .sorted) lo hi;
+    add-good = record {
+      noneKey = g .noneKey;
+      sorted = sorted-put key A m B (g .sorted) lo hi;
       wf = λ (v : FugueSpan) (k : Mem v (A ++ m ∷ B)). wf′ v (oldOr v k);
       olIn = λ (v : FugueSpan) (k : Mem v (A ++ m ∷ B)). ol′ v (oldOr v k);
       orIn = λ (v : FugueSpan) (k : Mem v (A ++ m ∷ B)). or′ v (oldOr v k);
-      rooted = λ (v : FugueSpan) (k : Mem v (A ++ m ∷ B)). rooted′ v (oldOr v k) }
+      rooted = λ (v : FugueSpan) (k : Mem v (A ++ m ∷ B)). rooted′ v (oldOr v k);
+    }
 
 -- A unit that comes next in a span: right behind the unit before it, to which no unit's origin left points yet.
 module _ (key : OptId → Key) (A B : List FugueSpan) (u : FugueSpan) (g : Good key (A ++ u ∷ B)) (m : FugueSpan) (hung : Hung key (ref u) (m .id) Nothing)
-  (last : (w : FugueSpan) → Mem w (A ++ u ∷ B) → ol w ≡ ref u → ⊥)
-  (fresh : (w : FugueSpan) → Mem w (A ++ u ∷ B) → ref w ≡ ref m → ⊥) where
-
+    (last : (w : FugueSpan) → Mem w (A ++ u ∷ B) → ol w ≡ ref u → ⊥)
+    (fresh : (w : FugueSpan) → Mem w (A ++ u ∷ B) → ref w ≡ ref m → ⊥) where
   inU : Mem u (A ++ u ∷ B)
   inU = Memᴰ·append-right A (List·Memᴰ·head refl)
 
@@ -144,26 +147,34 @@ module _ (key : OptId → Key) (A B : List FugueSpan) (u : FugueSpan) (g : Good 
     where
       inBw : (v : FugueSpan) → Mem v (w ∷ C) → Mem v (A ++ u ∷ B)
       inBw v k = Memᴰ·append-right A (List·Memᴰ·tail (subst (λ (z : List FugueSpan). Mem v z) (sym e) k))
+
       inW : Mem w (A ++ u ∷ B)
       inW = inBw w (List·Memᴰ·head refl)
+
       uw : Lt (key (ref u)) (key (ref w))
       uw = sorted-back key A u B (g .sorted) w (subst (λ (z : List FugueSpan). Mem w z) (sym e) (List·Memᴰ·head refl))
+
       srt : Sorted key ((A ++ u ∷ []) ++ w ∷ C)
       srt = subst (λ (z : List FugueSpan). Sorted key z) (ap (λ (z : List FugueSpan). A ++ u ∷ z) e ∙ sym (append-assoc A (u ∷ []) (w ∷ C))) (g .sorted)
+
       behind3 : (v : FugueSpan) → Lt (key (ref v)) (key (ref w)) → (v ≡ w) ⊎ Mem v C → ⊥
       behind3 v k (inl d) = Lt-irrefl (key (ref w)) (subst (λ (z : FugueSpan). Lt (key (ref z)) (key (ref w))) d k)
       behind3 v k (inr d) = Lt-asym (key (ref v)) (key (ref w)) k (sorted-back key (A ++ u ∷ []) w C srt v d)
+
       behind2 : (v : FugueSpan) → Lt (key (ref u)) (key (ref v)) → Lt (key (ref v)) (key (ref w)) → Mid v A u B → ⊥
       behind2 v h k (inA d) = Lt-asym (key (ref u)) (key (ref v)) h (sorted-front key A u B (g .sorted) v d)
       behind2 v h k (isM d) = Lt-irrefl (key (ref u)) (subst (λ (z : FugueSpan). Lt (key (ref u)) (key (ref z))) d h)
       behind2 v h k (inB d) = behind3 v k (List·Memᴰ·cases-cons (subst (λ (z : List FugueSpan). Mem v z) e d))
+
       at-ol : Lt (key (ref u)) (key (ol w)) → In (ol w) (A ++ u ∷ B) → ⊥
       at-ol k (inl d) = g .rooted u inU (subst (λ (z : Key). Lt (key (ref u)) z) (ap key d ∙ g .noneKey) k)
       at-ol k (inr t) = behind2 (t .0) (subst (λ (z : OptId). Lt (key (ref u)) (key z)) (sym (t .2)) k)
-        (subst (λ (z : OptId). Lt (key z) (key (ref w))) (sym (t .2)) (after-ol key (g .wf w inW))) (mid A (t .1))
+          (subst (λ (z : OptId). Lt (key z) (key (ref w))) (sym (t .2)) (after-ol key (g .wf w inW))) (mid A (t .1))
+
       go2 : (key (ref u) ≡ key (ol w)) ⊎ Lt (key (ref u)) (key (ol w)) → ⊥
       go2 (inl d) = last w inW (sym (In-id key (A ++ u ∷ B) g (ol w) (g .olIn w inW)) ∙ (ap (lastOf Nothing) (sym d) ∙ last-of key (g .wf u inU)))
       go2 (inr k) = at-ol k (g .olIn w inW)
+
       go : Tri (Lt (key (ref m)) (key (ref w))) (key (ref m) ≡ key (ref w)) (Lt (key (ref w)) (key (ref m))) → Lt (key (ref m)) (key (ref w))
       go (tlt k) = k
       go (teq d) = absurd (fresh w inW (sym (last-of key (g .wf w inW)) ∙ (ap (lastOf Nothing) (sym d) ∙ last-of key hung)))
@@ -178,8 +189,10 @@ module _ (key : OptId → Key) (A B : List FugueSpan) (u : FugueSpan) (g : Good 
         where
           first : Lt (key (ref m)) (key (ref v))
           first = next-first v C e
+
           srt : Sorted key ((A ++ u ∷ []) ++ v ∷ C)
           srt = subst (λ (z : List FugueSpan). Sorted key z) (ap (λ (z : List FugueSpan). A ++ u ∷ z) e ∙ sym (append-assoc A (u ∷ []) (v ∷ C))) (g .sorted)
+
           go2 : (w ≡ v) ⊎ Mem w C → Lt (key (ref m)) (key (ref w))
           go2 (inl d) = subst (λ (z : FugueSpan). Lt (key (ref m)) (key (ref z))) (sym d) first
           go2 (inr d) = Lt-trans (key (ref m)) (key (ref v)) (key (ref w)) first (sorted-back key (A ++ u ∷ []) v C srt w d)

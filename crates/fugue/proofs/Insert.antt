@@ -58,21 +58,21 @@ module _ (key : OptId → Key) (l : List FugueSpan) (g : Good key l) where
       go : Tri (Lt (key (ref u)) (key (ref w))) (key (ref u) ≡ key (ref w)) (Lt (key (ref w)) (key (ref u))) → Cmp key l (ref u) (ref w)
       go (tlt k) = c-lt k (lt-ltb (posOf l (ref u)) (posOf l (ref w)) (pos-mono key l (g .sorted) u w mu mw k))
       go (teq e) =
-        let p : posOf l (ref u) ≡ posOf l (ref w) = ap (posOf l) (ref-inj u w mu mw e) in
-        c-eq (ref-inj u w mu mw e) (le-ltb (posOf l (ref u)) (posOf l (ref w)) (omega arith)) (eq-eqb (posOf l (ref u)) (posOf l (ref w)) p)
+          let p : posOf l (ref u) ≡ posOf l (ref w) = ap (posOf l) (ref-inj u w mu mw e) in
+          c-eq (ref-inj u w mu mw e) (le-ltb (posOf l (ref u)) (posOf l (ref w)) (omega arith)) (eq-eqb (posOf l (ref u)) (posOf l (ref w)) p)
       go (tgt k) =
-        let p : posOf l (ref w) < posOf l (ref u) = pos-mono key l (g .sorted) w u mw mu k in
-        c-gt k (le-ltb (posOf l (ref u)) (posOf l (ref w)) (omega arith)) (ne-eqb (posOf l (ref u)) (posOf l (ref w)) (λ (d : posOf l (ref u) ≡ posOf l (ref w)). omega arith))
+          let p : posOf l (ref w) < posOf l (ref u) = pos-mono key l (g .sorted) w u mw mu k in
+          c-gt k (le-ltb (posOf l (ref u)) (posOf l (ref w)) (omega arith)) (ne-eqb (posOf l (ref u)) (posOf l (ref w)) (λ (d : posOf l (ref u) ≡ posOf l (ref w)). omega arith))
 
   cmp : (a b : OptId) → In a l → In b l → Cmp key l a b
   cmp a b (inl ea) (inl eb) = subst₂ (Cmp key l) (sym ea) (sym eb)
-    (c-eq refl (le-ltb (posOf l Nothing) (posOf l Nothing) (omega arith)) (eq-eqb (posOf l Nothing) (posOf l Nothing) refl))
+      (c-eq refl (le-ltb (posOf l Nothing) (posOf l Nothing) (omega arith)) (eq-eqb (posOf l Nothing) (posOf l Nothing) refl))
   cmp a b (inl ea) (inr t) =
-    let p : posOf l (ref (t .0)) < posOf l Nothing = subst (λ (n : ℕ). posOf l (ref (t .0)) < n) (sym (pos-none l)) (pos-in l (t .0) (t .1)) in
-    subst₂ (Cmp key l) (sym ea) (t .2) (c-gt tt (le-ltb (posOf l Nothing) (posOf l (ref (t .0))) (omega arith)) (ne-eqb (posOf l Nothing) (posOf l (ref (t .0))) (λ (d : posOf l Nothing ≡ posOf l (ref (t .0))). omega arith)))
+      let p : posOf l (ref (t .0)) < posOf l Nothing = subst (λ (n : ℕ). posOf l (ref (t .0)) < n) (sym (pos-none l)) (pos-in l (t .0) (t .1)) in
+      subst₂ (Cmp key l) (sym ea) (t .2) (c-gt tt (le-ltb (posOf l Nothing) (posOf l (ref (t .0))) (omega arith)) (ne-eqb (posOf l Nothing) (posOf l (ref (t .0))) (λ (d : posOf l Nothing ≡ posOf l (ref (t .0))). omega arith)))
   cmp a b (inr t) (inl eb) =
-    let p : posOf l (ref (t .0)) < posOf l Nothing = subst (λ (n : ℕ). posOf l (ref (t .0)) < n) (sym (pos-none l)) (pos-in l (t .0) (t .1)) in
-    subst₂ (Cmp key l) (t .2) (sym eb) (c-lt tt (lt-ltb (posOf l (ref (t .0))) (posOf l Nothing) p))
+      let p : posOf l (ref (t .0)) < posOf l Nothing = subst (λ (n : ℕ). posOf l (ref (t .0)) < n) (sym (pos-none l)) (pos-in l (t .0) (t .1)) in
+      subst₂ (Cmp key l) (t .2) (sym eb) (c-lt tt (lt-ltb (posOf l (ref (t .0))) (posOf l Nothing) p))
   cmp a b (inr t) (inr s) = subst₂ (Cmp key l) (t .2) (s .2) (cmp2 (t .0) (s .0) (t .1) (s .1))
 
   module _ (me : Id) (x o : OptId) where
@@ -84,20 +84,25 @@ module _ (key : OptId → Key) (l : List FugueSpan) (g : Good key l) where
       where
         pv : OptId
         pv = parentRight l (ol v) (or v)
+
         pm : OptId
         pm = parentRight l x o
+
         S : Verdict → Type 0
         S k = Says key (λ (u : FugueSpan). parentRight l (ol u) (or u)) me x pm s v k
+
         ver : Bool → Bool → Bool → Bool → Bool → Bool → Verdict
         ver sameOl sameOr larger scanned lt eq = cond sameOl (cond sameOr (cond larger Stop Clear) (byPos lt eq larger)) (cond scanned Keep Stop)
+
         inner : ol v ≡ x → Test (ltb (me .peer) (v .id .peer)) (me .peer < v .id .peer) → Cmp key l pv pm → S (byPos (ltb (posOf l pv) (posOf l pm)) (eqb (posOf l pv) (posOf l pm)) (ltb (me .peer) (v .id .peer)))
         inner d t (c-lt k e) = subst (λ (b : Bool). S (byPos b (eqb (posOf l pv) (posOf l pm)) (ltb (me .peer) (v .id .peer)))) (sym e) (s-hold d k)
         inner d (pass e g) (c-eq k e1 e2) = rw (e1, e2, e) (s-stopeq d k g)
         inner d (fail e g) (c-eq k e1 e2) = rw (e1, e2, e) (s-cleareq d k (omega arith))
         inner d t (c-gt k e1 e2) = rw (e1, e2) (s-cleargt d k)
+
         go : Test (sameOpt (ol v) x) (ol v ≡ x) → Test (sameOpt (or v) o) (or v ≡ o) → Test (ltb (me .peer) (v .id .peer)) (me .peer < v .id .peer)
-          → Test (memId (ol v) s) ((w : FugueSpan) × Mem w s × (ref w ≡ ol v)) → Cmp key l pv pm
-          → S (ver (sameOpt (ol v) x) (sameOpt (or v) o) (ltb (me .peer) (v .id .peer)) (memId (ol v) s) (ltb (posOf l pv) (posOf l pm)) (eqb (posOf l pv) (posOf l pm)))
+            → Test (memId (ol v) s) ((w : FugueSpan) × Mem w s × (ref w ≡ ol v)) → Cmp key l pv pm
+            → S (ver (sameOpt (ol v) x) (sameOpt (or v) o) (ltb (me .peer) (v .id .peer)) (memId (ol v) s) (ltb (posOf l pv) (posOf l pm)) (eqb (posOf l pv) (posOf l pm)))
         go (pass e d) (pass e′ d′) (pass e″ h) t k = rw (e, e′, e″) (s-stopeq d (ap₂ (parentRight l) d d′) h)
         go (pass e d) (pass e′ d′) (fail e″ h) t k = rw (e, e′, e″) (s-cleareq d (ap₂ (parentRight l) d d′) (omega arith))
         go (pass e d) (fail e′ d′) h t k = rw (e, e′) (inner d h k)

@@ -163,20 +163,20 @@ between-lefts [] s ls [] a h k = h
 between-lefts [] s ls (m ∷ ms) a h k = LR-no m (a .0) h
 between-lefts (t ∷ x) s ls [] a h k = LR-no t h k
 between-lefts (t ∷ x) s ls (m ∷ ms) a h k =
-  let e : t ≡ m = squeeze t m x ms (x ++ s ∷ ls) ms h k in
-  between-lefts x s ls ms (a .1) (tails t m x ms h e) (tails m t ms (x ++ s ∷ ls) k (sym e))
+    let e : t ≡ m = squeeze t m x ms (x ++ s ∷ ls) ms h k in
+    between-lefts x s ls ms (a .1) (tails t m x ms h e) (tails m t ms (x ++ s ∷ ls) k (sym e))
 
 -- F2. u hangs below x by s and lefts; v hangs below z by r and lefts. If v is between x and u then z is x or after x.
 pub no-cross-left : (x z : Key) (s r : Step) (ls ms : Key) → IsR r → AllL ms
-  → Lt x (z ++ r ∷ ms) → Lt (z ++ r ∷ ms) (x ++ s ∷ ls) → (x ≡ z) ⊎ Lt x z
+    → Lt x (z ++ r ∷ ms) → Lt (z ++ r ∷ ms) (x ++ s ∷ ls) → (x ≡ z) ⊎ Lt x z
 no-cross-left [] [] s r ls ms ir a h k = inl refl
 no-cross-left [] (t ∷ z) s r ls ms ir a h k = inr h
 no-cross-left (t ∷ x) [] s r ls ms ir a h k =
-  let e : t ≡ r = squeeze t r x ms (x ++ s ∷ ls) ms h k in
-  absurd (between-lefts x s ls ms a (tails t r x ms h e) (tails r t ms (x ++ s ∷ ls) k (sym e)))
+    let e : t ≡ r = squeeze t r x ms (x ++ s ∷ ls) ms h k in
+    absurd (between-lefts x s ls ms a (tails t r x ms h e) (tails r t ms (x ++ s ∷ ls) k (sym e)))
 no-cross-left (t ∷ x) (b ∷ z) s r ls ms ir a h k =
-  let e : t ≡ b = squeeze t b x (z ++ r ∷ ms) (x ++ s ∷ ls) (z ++ r ∷ ms) h k in
-  go e (no-cross-left x z s r ls ms ir a (tails t b x (z ++ r ∷ ms) h e) (tails b t (z ++ r ∷ ms) (x ++ s ∷ ls) k (sym e)))
+    let e : t ≡ b = squeeze t b x (z ++ r ∷ ms) (x ++ s ∷ ls) (z ++ r ∷ ms) h k in
+    go e (no-cross-left x z s r ls ms ir a (tails t b x (z ++ r ∷ ms) h e) (tails b t (z ++ r ∷ ms) (x ++ s ∷ ls) k (sym e)))
   where
     go : t ≡ b → (x ≡ z) ⊎ Lt x z → (t ∷ x ≡ b ∷ z) ⊎ Lt (t ∷ x) (b ∷ z)
     go e (inl h) = inl (ap₂ _∷_ e h)
@@ -189,11 +189,11 @@ lefts-not-after (s ∷ ls) a h = LR-no s (a .0) h
 
 -- F1 on what is behind the common part: y = ls, a; r = ls; u = ms, b; its parent ms. If y is before u and u before r, then r is not before u's parent.
 pub cross-lefts : (ls ms : Key) (a b : Step) → AllL ls → AllL ms → IsL b
-  → Lt (ls ++ a ∷ []) (ms ++ b ∷ []) → Lt (ms ++ b ∷ []) ls → Lt ls ms → ⊥
+    → Lt (ls ++ a ∷ []) (ms ++ b ∷ []) → Lt (ms ++ b ∷ []) ls → Lt ls ms → ⊥
 cross-lefts [] [] a b al am ib h k l = l
 cross-lefts [] (m ∷ ms) a b al am ib h k l = LR-no m (am .0) l
 cross-lefts (e ∷ es) [] a b al am ib h (inl k) l = heads e b (es ++ a ∷ []) [] h k
 cross-lefts (e ∷ es) [] a b al am ib h (inr k) l = lefts-not-after es (al .1) (k .1)
 cross-lefts (e ∷ es) (m ∷ ms) a b al am ib h k l =
-  let q : m ≡ e = squeeze m e (ms ++ b ∷ []) es ms es k l in
-  cross-lefts es ms a b (al .1) (am .1) ib (tails e m (es ++ a ∷ []) (ms ++ b ∷ []) h (sym q)) (tails m e (ms ++ b ∷ []) es k q) (tails e m es ms l (sym q))
+    let q : m ≡ e = squeeze m e (ms ++ b ∷ []) es ms es k l in
+    cross-lefts es ms a b (al .1) (am .1) ib (tails e m (es ++ a ∷ []) (ms ++ b ∷ []) h (sym q)) (tails m e (ms ++ b ∷ []) es k q) (tails e m es ms l (sym q))

@@ -61,8 +61,9 @@ newKey-new key i f (suc n) k h = go (sameOpt-test (At (incId i k)) (At (incId i 
   where
     P : Bool → Key
     P b = cond b (spanKey i f n) (newKey key i f n (At (incId i k)))
+
     go : Test (sameOpt (At (incId i k)) (At (incId i n))) (At (incId i k) ≡ At (incId i n)) → Dec (k < n) → (k < n → newKey key i f n (At (incId i k)) ≡ spanKey i f k)
-      → P (sameOpt (At (incId i k)) (At (incId i n))) ≡ spanKey i f k
+        → P (sameOpt (At (incId i k)) (At (incId i n))) ≡ spanKey i f k
     go (pass e d) (yes y) ih = absurd (inc-apart i k n y d)
     go (pass e d) (no y) ih = ap P e ∙ ap (spanKey i f) (let z : n ≡ k = omega arith in z)
     go (fail e d) (yes y) ih = ap P e ∙ ih y
@@ -89,8 +90,7 @@ firstKey-length key i x (At r) b h k = omega (arith, length-append (key (At r)) 
 
 -- A span of suc n units from id i with origins x, o; every unit of its peer is older.
 module _ (key : OptId → Key) (l : List FugueSpan) (g : Good key l) (i : Id) (n : ℕ) (x o : OptId) (ix : In x l)
-  (newest : (w : FugueSpan) → Mem w l → Older (w .id) i) where
-
+    (newest : (w : FugueSpan) → Mem w l → Older (w .id) i) where
   unfoldable pub keyOf : OptId → Key
   keyOf r = newKey key i (firstKey key i x (parentRight l x o)) (suc n) r
 
@@ -122,17 +122,20 @@ module _ (key : OptId → Key) (l : List FugueSpan) (g : Good key l) (i : Id) (n
     where
       N : OptId → Type 0
       N r = Hung (newKey key i (firstKey key i x r) (suc n)) x i r
+
       noneC : newKey key i (firstKey key i x Nothing) (suc n) (At i) ≡ firstKey key i x Nothing → newKey key i (firstKey key i x Nothing) (suc n) x ≡ key x → N Nothing
       noneC e1 e2 = hungR (e1 ∙ (unfold firstKey in ap (λ (z : Key). z ++ sr i ∷ []) (sym e2)))
+
       someC : (w : FugueSpan) → Mem w l → ol w ≡ x → newKey key i (firstKey key i x (ref w)) (suc n) (At i) ≡ firstKey key i x (ref w)
-        → newKey key i (firstKey key i x (ref w)) (suc n) x ≡ key x → newKey key i (firstKey key i x (ref w)) (suc n) (ref w) ≡ key (ref w) → N (ref w)
+          → newKey key i (firstKey key i x (ref w)) (suc n) x ≡ key x → newKey key i (firstKey key i x (ref w)) (suc n) (ref w) ≡ key (ref w) → N (ref w)
       someC w m d e1 e2 e3 =
-        let b : Below key (ol w) (w .id) = below key (g .wf w m) in
-        hungL (b .s) (b .ls) (b .right) (b .lefts) (e3 ∙ (b .shape ∙ ap (λ (z : Key). z ++ b .s ∷ b .ls) (ap key d ∙ sym e2)))
+          let b : Below key (ol w) (w .id) = below key (g .wf w m) in
+          hungL (b .s) (b .ls) (b .right) (b .lefts) (e3 ∙ (b .shape ∙ ap (λ (z : Key). z ++ b .s ∷ b .ls) (ap key d ∙ sym e2)))
           (e1 ∙ (unfold firstKey in ap (λ (z : Key). z ++ sl i ∷ []) (sym e3)))
+
       go : Test (hasOl l o x) ((w : FugueSpan) × Mem w l × (ref w ≡ o) × (ol w ≡ x)) → N (cond (hasOl l o x) o Nothing)
       go (pass e t) = subst N (t .2 ∙ ap (λ (b : Bool). cond b o Nothing) (sym e))
-        (someC (t .0) (t .1) (t .3) (first (firstKey key i x (ref (t .0)))) (old (firstKey key i x (ref (t .0))) x ix)
+          (someC (t .0) (t .1) (t .3) (first (firstKey key i x (ref (t .0)))) (old (firstKey key i x (ref (t .0))) x ix)
           (old (firstKey key i x (ref (t .0))) (ref (t .0)) (inr (t .0, t .1, refl))))
       go (fail e m) = subst N (ap (λ (b : Bool). cond b o Nothing) (sym e)) (noneC (first (firstKey key i x Nothing)) (old (firstKey key i x Nothing) x ix))
 

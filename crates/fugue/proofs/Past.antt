@@ -50,7 +50,7 @@ nth-cons v l zero = refl
 nth-cons v l (suc n) = refl
 
 last-step : (b : Bool) (v : FugueSpan) (l : List FugueSpan) (n : ℕ) → suc n ≤ cond b (suc (shown l)) (shown l)
-  → ((n : ℕ) (r : OptId) → suc n ≤ shown l → lastId r (front l (suc n)) ≡ nth l n) → lastId (ref v) (front l (cond b n (suc n))) ≡ nthStep b v l n
+    → ((n : ℕ) (r : OptId) → suc n ≤ shown l → lastId r (front l (suc n)) ≡ nth l n) → lastId (ref v) (front l (cond b n (suc n))) ≡ nthStep b v l n
 unfolding nthStep lastId
 last-step true v l zero h ih = ap (lastId (ref v)) (front-zero l)
 last-step true v l (suc n) h ih = ih n (ref v) (omega arith)
@@ -87,9 +87,11 @@ nth-past (v ∷ l) n = go (v .status .future) refl n (nth-past l)
     same false zero ih = unfold nthStep in ih zero
     same true (suc n) ih = unfold nthStep in ih n
     same false (suc n) ih = unfold nthStep in ih (suc n)
+
     skip : (n : ℕ) → nthStep false v l n ≡ nth l n
     skip zero = unfold nthStep in refl
     skip (suc n) = unfold nthStep in refl
+
     go : (b : Bool) → v .status .future ≡ b → (n : ℕ) → ((n : ℕ) → nth l n ≡ nth (pastOf l) n) → nth (v ∷ l) n ≡ nth (cond (not b) (v ∷ pastOf l) (pastOf l)) n
     go true e n ih = nth-cons v l n ∙ (ap (λ (b : Bool). nthStep b v l n) (hidden v e) ∙ (skip n ∙ ih n))
     go false e n ih = nth-cons v l n ∙ (same (activated (v .status)) n ih ∙ sym (nth-cons v (pastOf l) n))
@@ -133,13 +135,14 @@ firstShown-past (v ∷ l) zero = go (not (v .status .future))
     z : (l : List FugueSpan) → [] ≡ firstShown l zero
     z [] = refl
     z (u ∷ l) = refl
+
     go : (b : Bool) → [] ≡ firstShown (cond b (v ∷ pastOf l) (pastOf l)) zero
     go true = refl
     go false = z (pastOf l)
 firstShown-past (v ∷ l) (suc n) = go (v .status .future) refl (firstShown-past l)
   where
     go : (b : Bool) → v .status .future ≡ b → ((n : ℕ) → firstShown l n ≡ firstShown (pastOf l) n)
-      → cond (activated (v .status)) (v ∷ firstShown l n) (firstShown l (suc n)) ≡ firstShown (cond (not b) (v ∷ pastOf l) (pastOf l)) (suc n)
+        → cond (activated (v .status)) (v ∷ firstShown l n) (firstShown l (suc n)) ≡ firstShown (cond (not b) (v ∷ pastOf l) (pastOf l)) (suc n)
     go true e ih = ap (λ (b : Bool). cond b (v ∷ firstShown l n) (firstShown l (suc n))) (hidden v e) ∙ ih (suc n)
     go false e ih = ap₂ (λ (a b : List FugueSpan). cond (activated (v .status)) (v ∷ a) b) (ih n) (ih (suc n))
 
@@ -160,14 +163,18 @@ nth-in (v ∷ l) n h = go (activated (v .status)) refl n h (nth-in l)
         at-future : (b : Bool) → v .status .future ≡ b → v .status .future ≡ false
         at-future true d = absurd (true≢false (sym e ∙ hidden v d))
         at-future false d = d
+
     R : ℕ → Type 0
     R n = (w : FugueSpan) × Mem w (v ∷ l) × (ref w ≡ nth (v ∷ l) n) × (w .status .future ≡ false)
+
     up : (n m : ℕ) → nth l m ≡ nth (v ∷ l) n → (w : FugueSpan) × Mem w l × (ref w ≡ nth l m) × (w .status .future ≡ false) → R n
     up n m e t = (t .0, List·Memᴰ·tail (t .1), t .2 ∙ e, t .3)
+
     step : (b : Bool) (n : ℕ) → activated (v .status) ≡ b → nth (v ∷ l) n ≡ nthStep b v l n
     step b n e = nth-cons v l n ∙ ap (λ (b : Bool). nthStep b v l n) e
+
     go : (b : Bool) → activated (v .status) ≡ b → (n : ℕ) → suc n ≤ cond b (suc (shown l)) (shown l)
-      → ((n : ℕ) → suc n ≤ shown l → (w : FugueSpan) × Mem w l × (ref w ≡ nth l n) × (w .status .future ≡ false)) → R n
+        → ((n : ℕ) → suc n ≤ shown l → (w : FugueSpan) × Mem w l × (ref w ≡ nth l n) × (w .status .future ≡ false)) → R n
     go true e zero h ih = (v, List·Memᴰ·head refl, unfold nthStep in sym (step true zero e), seen e)
     go true e (suc n) h ih = up (suc n) n (unfold nthStep in sym (step true (suc n) e)) (ih n (omega arith))
     go false e zero h ih = up zero zero (unfold nthStep in sym (step false zero e)) (ih zero h)

@@ -41,7 +41,6 @@ sorted-back key [] v t h w m = h .0 w m
 sorted-back key (u ∷ s) v t h w m = sorted-back key s v t (h .1) w m
 
 module _ (key : OptId → Key) (prf : FugueSpan → OptId) (me : Id) (x pr : OptId) where
-
   -- what 01's rule says of the unit v, when the units s are scanned
   pub data Says (s : List FugueSpan) (v : FugueSpan) : Verdict → Type 0 where
     s-hold : ol v ≡ x → PLt key (prf v) pr → Says s v Hold
@@ -87,8 +86,7 @@ module _ (key : OptId → Key) (prf : FugueSpan → OptId) (me : Id) (x pr : Opt
   Inv all true p i Q = Held all Q
 
   module _ (all S1 S2 : List FugueSpan) (sc : Scene all S1 S2) (f : List FugueSpan → FugueSpan → Verdict)
-    (says : (s : List FugueSpan) (v : FugueSpan) → Mem v all → Says s v (f s v)) where
-
+      (says : (s : List FugueSpan) (v : FugueSpan) → Mem v all → Says s v (f s v)) where
     -- one unit with this verdict, then the rest
     abbrev stepWith : List FugueSpan → Bool → ℕ → ℕ → FugueSpan → List FugueSpan → Verdict → ℕ
     stepWith Q h p i v vs k = cond (isStop k) p (run f (Q ++ v ∷ []) (after k h) (cond (after k h) p (suc i)) (suc i) vs)
@@ -116,19 +114,20 @@ module _ (key : OptId → Key) (prf : FugueSpan → OptId) (me : Id) (x pr : Opt
     -- after us its origin left is not before us in the scan
     high-keep : (v : FugueSpan) → Mem v S2 → (w : FugueSpan) → Mem w S1 → ref w ≡ ol v → ⊥
     high-keep v m w mw e =
-      go (F2 key (sc .wf v (sc .highIn v m)) (sc .hung) (subst (λ (z : OptId). Lt (key z) (key (At me))) e (sc .lo w mw)) (sc .hi v m))
+        go (F2 key (sc .wf v (sc .highIn v m)) (sc .hung) (subst (λ (z : OptId). Lt (key z) (key (At me))) e (sc .lo w mw)) (sc .hi v m))
       where
         k : Lt (key x) (key (ol v))
         k = subst (λ (z : OptId). Lt (key x) (key z)) e (sc .xlo w mw)
+
         go : (key (ol v) ≡ key x) ⊎ Lt (key (ol v)) (key x) → ⊥
         go (inl h) = Lt-irrefl (key x) (subst (λ (z : Key). Lt (key x) z) h k)
         go (inr h) = Lt-asym (key x) (key (ol v)) k h
 
     -- units after us: the place does not move any more
     highStep : (Q : List FugueSpan) (h : Bool) (p i : ℕ) (v : FugueSpan) (vs : List FugueSpan) → Mem v S2
-      → ((w : FugueSpan) → Mem w Q → Mem w S1 ⊎ (h ≡ true))
-      → (run f (Q ++ v ∷ []) true p (suc i) vs ≡ p)
-      → (k : Verdict) → Says Q v k → stepWith Q h p i v vs k ≡ p
+        → ((w : FugueSpan) → Mem w Q → Mem w S1 ⊎ (h ≡ true))
+        → (run f (Q ++ v ∷ []) true p (suc i) vs ≡ p)
+        → (k : Verdict) → Says Q v k → stepWith Q h p i v vs k ≡ p
     unfolding isStop after
     highStep Q h p i v vs m scn ih Hold (s-hold e l) = ih
     highStep Q h p i v vs m scn ih Stop (s-stopeq e l g) = refl
@@ -142,11 +141,11 @@ module _ (key : OptId → Key) (prf : FugueSpan → OptId) (me : Id) (x pr : Opt
         go (inr t) = subst (λ (z : Bool). run f (Q ++ v ∷ []) z (cond z p (suc i)) (suc i) vs ≡ p) (sym t) ih
 
     runHigh : (S Q : List FugueSpan) (h : Bool) (p i : ℕ) → ((w : FugueSpan) → Mem w S → Mem w S2)
-      → ((w : FugueSpan) → Mem w Q → Mem w S1 ⊎ (h ≡ true)) → run f Q h p i S ≡ p
+        → ((w : FugueSpan) → Mem w Q → Mem w S1 ⊎ (h ≡ true)) → run f Q h p i S ≡ p
     unfolding run
     runHigh [] Q h p i sub scn = refl
     runHigh (v ∷ S) Q h p i sub scn =
-      highStep Q h p i v S (sub v (List·Memᴰ·head refl)) scn
+        highStep Q h p i v S (sub v (List·Memᴰ·head refl)) scn
         (runHigh S (Q ++ v ∷ []) true p (suc i) (λ (w : FugueSpan) (m : Mem w S). sub w (List·Memᴰ·tail m)) (λ (w : FugueSpan) (m : Mem w (Q ++ v ∷ [])). inr refl))
         (f Q v) (says Q v (sc .highIn v (sub v (List·Memᴰ·head refl))))
 
@@ -167,22 +166,27 @@ module _ (key : OptId → Key) (prf : FugueSpan → OptId) (me : Id) (x pr : Opt
       where
         mv : Mem v all
         mv = sc .lowIn v m
+
         srt : Sorted key (Q ++ v ∷ S)
         srt = subst (λ (z : List FugueSpan). Sorted key z) (sym e) (sc .sorted)
+
         inside3 : (w : FugueSpan) → Lt (key (ref w)) (key (ref v)) → ref w ≡ ol v → (w ≡ v) ⊎ Mem w S → ⊥
         inside3 w k r (inl d) = Lt-irrefl (key (ref v)) (subst (λ (z : FugueSpan). Lt (key (ref z)) (key (ref v))) d k)
         inside3 w k r (inr d) = Lt-asym (key (ref w)) (key (ref v)) k (sorted-back key Q v S srt w d)
+
         inside2 : (w : FugueSpan) → Lt (key (ref w)) (key (ref v)) → ref w ≡ ol v → Mem w Q ⊎ Mem w (v ∷ S) → ⊥
         inside2 w k r (inl d) = l w d r
         inside2 w k r (inr d) = inside3 w k r (List·Memᴰ·cases-cons d)
+
         at-ol : Lt (key x) (key (ol v)) → (ol v ≡ Nothing) ⊎ ((w : FugueSpan) × Mem w all × (ref w ≡ ol v)) → ⊥
         at-ol k (inl d) = sc .rooted (subst (λ (z : Key). Lt (key x) z) (ap key d ∙ sc .noneKey) k)
         at-ol k (inr t) =
-          let w : FugueSpan = t .0 in
-          let k1 : Lt (key x) (key (ref w)) = subst (λ (z : OptId). Lt (key x) (key z)) (sym (t .2)) k in
-          let k2 : Lt (key (ref w)) (key (ref v)) = subst (λ (z : OptId). Lt (key z) (key (ref v))) (sym (t .2)) (after-ol key (sc .wf v mv)) in
-          let k3 : Lt (key (ref w)) (key (At me)) = Lt-trans (key (ref w)) (key (ref v)) (key (At me)) k2 (sc .lo v m) in
-          inside2 w k2 (t .2) (List·Memᴰ·append-cases Q (subst (λ (z : List FugueSpan). Mem w z) (sym e) (sc .full w (t .1) k1 k3)))
+            let w : FugueSpan = t .0 in
+            let k1 : Lt (key x) (key (ref w)) = subst (λ (z : OptId). Lt (key x) (key z)) (sym (t .2)) k in
+            let k2 : Lt (key (ref w)) (key (ref v)) = subst (λ (z : OptId). Lt (key z) (key (ref v))) (sym (t .2)) (after-ol key (sc .wf v mv)) in
+            let k3 : Lt (key (ref w)) (key (At me)) = Lt-trans (key (ref w)) (key (ref v)) (key (At me)) k2 (sc .lo v m) in
+            inside2 w k2 (t .2) (List·Memᴰ·append-cases Q (subst (λ (z : List FugueSpan). Mem w z) (sym e) (sc .full w (t .1) k1 k3)))
+
         go : (key x ≡ key (ol v)) ⊎ Lt (key x) (key (ol v)) → ⊥
         go (inl d) = n (x-of-key v mv d)
         go (inr k) = at-ol k (sc .olIn v mv)
@@ -193,32 +197,55 @@ module _ (key : OptId → Key) (prf : FugueSpan → OptId) (me : Id) (x pr : Opt
       where
         mv : Mem v all
         mv = sc .lowIn v m
+
         srt : Sorted key (Q ++ v ∷ S)
         srt = subst (λ (z : List FugueSpan). Sorted key z) (sym e) (sc .sorted)
+
         apart : (a : Id) → Lt (key (ref v)) (key (At a)) → (w : FugueSpan) → ref w ≡ At a → Mem w Q ⊎ Mem w (v ∷ []) → ⊥
         apart a k w g (inl mw) =
-          Lt-irrefl (key (At a)) (subst (λ (z : OptId). Lt (key z) (key (At a))) g
+            Lt-irrefl (key (At a)) (subst (λ (z : OptId). Lt (key z) (key (At a))) g
             (Lt-trans (key (ref w)) (key (ref v)) (key (At a)) (sorted-front key Q v S srt w mw) k))
         apart a k w g (inr mw) =
-          Lt-irrefl (key (At a)) (subst (λ (z : OptId). Lt (key z) (key (At a))) (ap ref (sym (List·Memᴰ·eq-of-singleton mw)) ∙ g) k)
+            Lt-irrefl (key (At a)) (subst (λ (z : OptId). Lt (key z) (key (At a))) (ap ref (sym (List·Memᴰ·eq-of-singleton mw)) ∙ g) k)
+
         go : (r : OptId) → prf v ≡ r → PLt key r pr → Held all (Q ++ v ∷ [])
         go Nothing g k = absurd k
         go (At a) g k =
-          let hy : Hung key x (v .id) (At a) = subst (λ (z : OptId). Hung key x (v .id) z) g (atX v mv d) in
-          let t : (w : FugueSpan) × Mem w all × (ref w ≡ At a) = sc .prIn v a mv g in
-          record { y = v .id; a = a; hy = hy; low = sc .lo v m; early = k; r = t .0; rin = t .1; rref = t .2;
-            notyet = λ (w : FugueSpan) (mw : Mem w (Q ++ v ∷ [])) (g′ : ref w ≡ At a). apart a (before-pr key hy) w g′ (List·Memᴰ·append-cases Q mw) }
+            let hy : Hung key x (v .id) (At a) = subst (λ (z : OptId). Hung key x (v .id) z) g (atX v mv d) in
+            let t : (w : FugueSpan) × Mem w all × (ref w ≡ At a) = sc .prIn v a mv g in
+            record {
+              y = v .id;
+              a = a;
+              hy = hy;
+              low = sc .lo v m;
+              early = k;
+              r = t .0;
+              rin = t .1;
+              rref = t .2;
+              notyet = λ (w : FugueSpan) (mw : Mem w (Q ++ v ∷ [])) (g′ : ref w ≡ At a). apart a (before-pr key hy) w g′ (List·Memᴰ·append-cases Q mw);
+            }
 
     -- holding goes on over v
     hold-on : (Q : List FugueSpan) (v : FugueSpan) → Mem v all → ¬ (ol v ≡ x) → Held all Q → Held all (Q ++ v ∷ [])
     hold-on Q v mv n h =
-      record { y = h .y; a = h .a; hy = h .hy; low = h .low; early = h .early; r = h .r; rin = h .rin; rref = h .rref;
-        notyet = λ (w : FugueSpan) (mw : Mem w (Q ++ v ∷ [])) (g : ref w ≡ At (h .a)). apart w g (List·Memᴰ·append-cases Q mw) }
+        record {
+          y = h .y;
+          a = h .a;
+          hy = h .hy;
+          low = h .low;
+          early = h .early;
+          r = h .r;
+          rin = h .rin;
+          rref = h .rref;
+          notyet = λ (w : FugueSpan) (mw : Mem w (Q ++ v ∷ [])) (g : ref w ≡ At (h .a)). apart w g (List·Memᴰ·append-cases Q mw);
+        }
       where
         same : (a : Id) → Hung key x (h .y) (At a) → v .id ≡ a → key x ≡ key (ol v)
         same a hy e = same-ol key hy (subst (λ (z : Id). Hung key (ol v) z (prf v)) e (sc .wf v mv))
+
         isv : ref v ≡ At (h .a) → ⊥
         isv g = n (x-of-key v mv (same (h .a) (h .hy) (cc)))
+
         apart : (w : FugueSpan) → ref w ≡ At (h .a) → Mem w Q ⊎ Mem w (v ∷ []) → ⊥
         apart w g (inl mw) = h .notyet w mw g
         apart w g (inr mw) = isv (ap ref (sym (List·Memᴰ·eq-of-singleton mw)) ∙ g)
@@ -229,16 +256,18 @@ module _ (key : OptId → Key) (prf : FugueSpan → OptId) (me : Id) (x pr : Opt
       where
         rk : key (ref (h .r)) ≡ key (At (h .a))
         rk = ap key (h .rref)
+
         same : key (At (h .a)) ≡ key (At me) → ref (h .r) ≡ At me
         same e = sym (last-of key (sc .wf (h .r) (h .rin))) ∙ (ap (lastOf Nothing) (rk ∙ e) ∙ last-of key (sc .hung))
+
         go : Tri (Lt (key (At (h .a))) (key (At me))) (key (At (h .a)) ≡ key (At me)) (Lt (key (At me)) (key (At (h .a)))) → ⊥
         go (tlt k) = h .notyet (h .r) (sc .full (h .r) (h .rin)
-          (subst (λ (z : Key). Lt (key x) z) (sym rk) (Lt-trans (key x) (key (At (h .y))) (key (At (h .a))) (after-ol key (h .hy)) (before-pr key (h .hy))))
-          (subst (λ (z : Key). Lt z (key (At me))) (sym rk) k)) (h .rref)
+            (subst (λ (z : Key). Lt (key x) z) (sym rk) (Lt-trans (key x) (key (At (h .y))) (key (At (h .a))) (after-ol key (h .hy)) (before-pr key (h .hy))))
+            (subst (λ (z : Key). Lt z (key (At me))) (sym rk) k)) (h .rref)
         go (teq e) =
-          let g : ref (h .r) ≡ At me = same e in
-          let d : h .r .id ≡ me = cc in
-          older-no (h .r .id) me (sc .newest (h .r) (h .rin)) d
+            let g : ref (h .r) ≡ At me = same e in
+            let d : h .r .id ≡ me = cc in
+            older-no (h .r .id) me (sc .newest (h .r) (h .rin)) d
         go (tgt k) = F1 key (h .hy) (sc .hung) (h .low) k (h .early)
 
     low-eq : (v : FugueSpan) → Mem v S1 → ol v ≡ x → prf v ≡ pr → me .peer < v .id .peer → ⊥
@@ -249,8 +278,8 @@ module _ (key : OptId → Key) (prf : FugueSpan → OptId) (me : Id) (x pr : Opt
         go (inr k) = omega arith
 
     lowStep : (Q S : List FugueSpan) (h : Bool) (p i : ℕ) (v : FugueSpan) → Q ++ v ∷ S ≡ S1 → Mem v S1 → Inv all h p i Q
-      → ((h : Bool) (p : ℕ) → Inv all h p (suc i) (Q ++ v ∷ []) → run f (Q ++ v ∷ []) h p (suc i) (S ++ S2) ≡ suc i + length S)
-      → (k : Verdict) → Says Q v k → stepWith Q h p i v (S ++ S2) k ≡ suc i + length S
+        → ((h : Bool) (p : ℕ) → Inv all h p (suc i) (Q ++ v ∷ []) → run f (Q ++ v ∷ []) h p (suc i) (S ++ S2) ≡ suc i + length S)
+        → (k : Verdict) → Says Q v k → stepWith Q h p i v (S ++ S2) k ≡ suc i + length S
     unfolding isStop after
     lowStep Q S h p i v e m inv ih Hold (s-hold d l) = ih true p (hold-new Q S v e m d l)
     lowStep Q S h p i v e m inv ih Stop (s-stopeq d l g) = absurd (low-eq v m d l g)
@@ -269,12 +298,13 @@ module _ (key : OptId → Key) (prf : FugueSpan → OptId) (me : Id) (x pr : Opt
       where
         q1 : Q ≡ S1
         q1 = sym (append-nil Q) ∙ e
+
         go : (h : Bool) → Inv all h p i Q → run f Q h p i S2 ≡ i + 0
         go false k = runHigh S2 Q false p i (λ (w : FugueSpan) (m : Mem w S2). m) (λ (w : FugueSpan) (m : Mem w Q). inl (subst (λ (z : List FugueSpan). Mem w z) q1 m)) ∙ (k ∙ sym (add-zero i))
         go true k = absurd (hold-end (subst (λ (z : List FugueSpan). Held all z) q1 k))
     runLow (v ∷ S) Q h p i e inv =
-      let m : Mem v S1 = subst (λ (z : List FugueSpan). Mem v z) e (Memᴰ·append-right Q (List·Memᴰ·head refl)) in
-      lowStep Q S h p i v e m inv
+        let m : Mem v S1 = subst (λ (z : List FugueSpan). Mem v z) e (Memᴰ·append-right Q (List·Memᴰ·head refl)) in
+        lowStep Q S h p i v e m inv
         (λ (h : Bool) (p : ℕ) (inv : Inv all h p (suc i) (Q ++ v ∷ [])). runLow S (Q ++ v ∷ []) h p (suc i) (append-assoc Q (v ∷ []) S ∙ e) inv)
         (f Q v) (says Q v (sc .lowIn v m)) ∙ omega arith
 

@@ -18,20 +18,26 @@ unfolding putAt
 putAt-splice zero new l = record { before = []; rest = l; old = refl; now = refl }
 putAt-splice (suc n) new [] = record { before = []; rest = []; old = refl; now = sym (append-nil new) }
 putAt-splice (suc n) new (v ∷ l) = let s : Splice l new (putAt n new l) = putAt-splice n new l in
-  record { before = v ∷ s .before; rest = s .rest; old = ap (λ (z : List FugueSpan). v ∷ z) (s .old); now = ap (λ (z : List FugueSpan). v ∷ z) (s .now) }
+    record { before = v ∷ s .before; rest = s .rest; old = ap (λ (z : List FugueSpan). v ∷ z) (s .old); now = ap (λ (z : List FugueSpan). v ∷ z) (s .now) }
 
 pub insert-splice : (pos : ℕ) (s : FugueSpan) (l : List FugueSpan) → Splice l (unitsOf (withOrigins s (originLeft pos l) (originRight pos l))) (insertUnits pos s l)
 unfolding insertUnits
-insert-splice pos s l = record { before = F ++ p .before; rest = p .rest;
-    old = sym (front-behind l pos) ∙ (ap (λ (z : List FugueSpan). F ++ z) (p .old) ∙ sym (append-assoc F (p .before) (p .rest)));
-    now = ap (λ (z : List FugueSpan). F ++ z) (p .now) ∙ sym (append-assoc F (p .before) (new ++ p .rest)) }
+insert-splice pos s l = record {
+  before = F ++ p .before;
+  rest = p .rest;
+  old = sym (front-behind l pos) ∙ (ap (λ (z : List FugueSpan). F ++ z) (p .old) ∙ sym (append-assoc F (p .before) (p .rest)));
+  now = ap (λ (z : List FugueSpan). F ++ z) (p .now) ∙ sym (append-assoc F (p .before) (new ++ p .rest));
+}
   where
     F : List FugueSpan
     F = front l pos
+
     new : List FugueSpan
     new = unitsOf (withOrigins s (originLeft pos l) (originRight pos l))
+
     at : ℕ
     at = scanPlace l (behind l pos) (originLeft pos l) (originRight pos l) (s .id .peer)
+
     p : Splice (behind l pos) new (putAt at new (behind l pos))
     p = putAt-splice at new (behind l pos)
 
@@ -42,6 +48,7 @@ module _ {l new l′ : List FugueSpan} (s : Splice l new l′) where
       three : Mem w new ⊎ Mem w (s .rest) → Mem w l ⊎ Mem w new
       three (inl k) = inr k
       three (inr k) = inl (subst (λ (z : List FugueSpan). Mem w z) (sym (s .old)) (Memᴰ·append-right (s .before) k))
+
       two : Mem w (s .before) ⊎ Mem w (new ++ s .rest) → Mem w l ⊎ Mem w new
       two (inl k) = inl (subst (λ (z : List FugueSpan). Mem w z) (sym (s .old)) (Memᴰ·append-left (s .rest) k))
       two (inr k) = three (List·Memᴰ·append-cases new k)
@@ -58,9 +65,9 @@ module _ {l new l′ : List FugueSpan} (s : Splice l new l′) where
 
   pub splice-length : length l′ ≡ length l + length new
   splice-length =
-    let a : length l′ ≡ length (s .before ++ (new ++ s .rest)) = ap length (s .now) in
-    let b : length l ≡ length (s .before ++ s .rest) = ap length (s .old) in
-    omega (arith, a, b, length-append (s .before) (new ++ s .rest), length-append new (s .rest), length-append (s .before) (s .rest))
+      let a : length l′ ≡ length (s .before ++ (new ++ s .rest)) = ap length (s .now) in
+      let b : length l ≡ length (s .before ++ s .rest) = ap length (s .old) in
+      omega (arith, a, b, length-append (s .before) (new ++ s .rest), length-append new (s .rest), length-append (s .before) (s .rest))
 
 -- ---- the units of a span
 
@@ -72,9 +79,9 @@ tab-from {A} f i (suc n) w m = go (List·Memᴰ·cases-cons m) (tab-from f (suc 
     go : (w ≡ f i) ⊎ List·Memᴰ w (tab f (suc i) n) → (List·Memᴰ w (tab f (suc i) n) → (k : ℕ) × (k < n) × (w ≡ f (suc i + k))) → (k : ℕ) × (k < suc n) × (w ≡ f (i + k))
     go (inl e) ih = (0, omega arith, e ∙ ap f (let z : i ≡ i + 0 = omega arith in z))
     go (inr h) ih =
-      let t : (k : ℕ) × (k < n) × (w ≡ f (suc i + k)) = ih h in
-      let b : t .0 < n = t .1 in
-      (suc (t .0), omega arith, t .2 ∙ ap f (let z : suc i + t .0 ≡ i + suc (t .0) = omega arith in z))
+        let t : (k : ℕ) × (k < n) × (w ≡ f (suc i + k)) = ih h in
+        let b : t .0 < n = t .1 in
+        (suc (t .0), omega arith, t .2 ∙ ap f (let z : suc i + t .0 ≡ i + suc (t .0) = omega arith in z))
 
 tab-in : {A : Type 0} (f : ℕ → A) (i n k : ℕ) → k < n → List·Memᴰ (f (i + k)) (tab f i n)
 unfolding tab
@@ -85,8 +92,8 @@ tab-in {A} f i (suc n) (suc k) h = List·Memᴰ·tail (subst (λ (z : ℕ). List
 pub unit-from : (y w : FugueSpan) → Mem w (unitsOf y) → (k : ℕ) × (k < lenSpan y) × (w ≡ unitAt y k)
 unfolding unitsOf
 unit-from y w m =
-  let t : (k : ℕ) × (k < lenSpan y) × (w ≡ unitAt y (0 + k)) = tab-from (unitAt y) 0 (lenSpan y) w m in
-  (t .0, t .1, t .2 ∙ ap (unitAt y) (let z : 0 + t .0 ≡ t .0 = omega arith in z))
+    let t : (k : ℕ) × (k < lenSpan y) × (w ≡ unitAt y (0 + k)) = tab-from (unitAt y) 0 (lenSpan y) w m in
+    (t .0, t .1, t .2 ∙ ap (unitAt y) (let z : 0 + t .0 ≡ t .0 = omega arith in z))
 
 pub unit-in : (y : FugueSpan) (k : ℕ) → k < lenSpan y → Mem (unitAt y k) (unitsOf y)
 unfolding unitsOf

@@ -54,7 +54,7 @@ memId-test r [] = fail refl (λ (t : (w : FugueSpan) × Mem w [] × (ref w ≡ r
 memId-test r (v ∷ l) = go (sameOpt-test r (ref v)) (memId-test r l)
   where
     go : Test (sameOpt r (ref v)) (r ≡ ref v) → Test (memId r l) ((w : FugueSpan) × Mem w l × (ref w ≡ r))
-      → Test (sameOpt r (ref v) || memId r l) ((w : FugueSpan) × Mem w (v ∷ l) × (ref w ≡ r))
+        → Test (sameOpt r (ref v) || memId r l) ((w : FugueSpan) × Mem w (v ∷ l) × (ref w ≡ r))
     go (pass e h) t = pass (ap (λ (b : Bool). b || memId r l) e) (v, List·Memᴰ·head refl, sym h)
     go (fail e h) (pass e′ t) = pass (ap₂ _||_ e e′) (t .0, List·Memᴰ·tail (t .1), t .2)
     go (fail e h) (fail e′ n) = fail (ap₂ _||_ e e′) (λ (t : (w : FugueSpan) × Mem w (v ∷ l) × (ref w ≡ r)). split t (List·Memᴰ·cases-cons (t .1)))
@@ -71,8 +71,9 @@ hasOl-test key (v ∷ l) r x srt = go (sameOpt-test r (ref v)) (sameOpt-test (ol
   where
     G : List FugueSpan → Type 0
     G l = (w : FugueSpan) × Mem w l × (ref w ≡ r) × (ol w ≡ x)
+
     go : Test (sameOpt r (ref v)) (r ≡ ref v) → Test (sameOpt (ol v) x) (ol v ≡ x) → Test (hasOl l r x) (G l)
-      → Test (cond (sameOpt r (ref v)) (sameOpt (ol v) x) (hasOl l r x)) (G (v ∷ l))
+        → Test (cond (sameOpt r (ref v)) (sameOpt (ol v) x) (hasOl l r x)) (G (v ∷ l))
     go (pass e h) (pass e′ d) t = pass (ap (λ (b : Bool). cond b (sameOpt (ol v) x) (hasOl l r x)) e ∙ e′) (v, List·Memᴰ·head refl, sym h, d)
     go (pass e h) (fail e′ n) t = fail (ap (λ (b : Bool). cond b (sameOpt (ol v) x) (hasOl l r x)) e ∙ e′) (λ (g : G (v ∷ l)). split g (List·Memᴰ·cases-cons (g .1)))
       where
@@ -98,7 +99,7 @@ pos-in [] w m = absurd (List·Memᴰ·not-nil m)
 pos-in (v ∷ l) w m = go (sameOpt-test (ref w) (ref v)) (List·Memᴰ·cases-cons m) (pos-in l w)
   where
     go : Test (sameOpt (ref w) (ref v)) (ref w ≡ ref v) → (w ≡ v) ⊎ Mem w l → (Mem w l → posOf l (ref w) < length l)
-      → cond (sameOpt (ref w) (ref v)) zero (suc (posOf l (ref w))) < suc (length l)
+        → cond (sameOpt (ref w) (ref v)) zero (suc (posOf l (ref w))) < suc (length l)
     go (pass e h) s ih = subst (λ (b : Bool). cond b zero (suc (posOf l (ref w))) < suc (length l)) (sym e) (omega arith)
     go (fail e h) (inl d) ih = absurd (h (ap ref d))
     go (fail e h) (inr d) ih = subst (λ (b : Bool). cond b zero (suc (posOf l (ref w))) < suc (length l)) (sym e) (omega (arith, ih d))
@@ -111,8 +112,9 @@ pos-mono key (v ∷ l) srt u w mu mw k = go (sameOpt-test (ref u) (ref v)) (same
   where
     P : Bool → Bool → Type 0
     P a b = cond a zero (suc (posOf l (ref u))) < cond b zero (suc (posOf l (ref w)))
+
     go : Test (sameOpt (ref u) (ref v)) (ref u ≡ ref v) → Test (sameOpt (ref w) (ref v)) (ref w ≡ ref v) → (u ≡ v) ⊎ Mem u l → (w ≡ v) ⊎ Mem w l
-      → (Mem u l → Mem w l → posOf l (ref u) < posOf l (ref w)) → P (sameOpt (ref u) (ref v)) (sameOpt (ref w) (ref v))
+        → (Mem u l → Mem w l → posOf l (ref u) < posOf l (ref w)) → P (sameOpt (ref u) (ref v)) (sameOpt (ref w) (ref v))
     go (pass e h) (pass e′ h′) a b ih = absurd (Lt-irrefl (key (ref v)) (subst (λ (z : OptId). Lt (key (ref v)) (key z)) h′ (subst (λ (z : OptId). Lt (key z) (key (ref w))) h k)))
     go (pass e h) (fail e′ h′) a b ih = subst₂ P (sym e) (sym e′) (omega arith)
     go (fail e h) t (inl d) b ih = absurd (h (ap ref d))

@@ -26,12 +26,12 @@ use Rattle.fugue.proofs.Insert.{In, Good, pr-in}
 -- ---- rising keys decide the list
 
 pub sorted-unique : (key : OptId → Key) (l m : List FugueSpan) → Sorted key l → Sorted key m
-  → ((w : FugueSpan) → Mem w l → Mem w m) → ((w : FugueSpan) → Mem w m → Mem w l) → l ≡ m
+    → ((w : FugueSpan) → Mem w l → Mem w m) → ((w : FugueSpan) → Mem w m → Mem w l) → l ≡ m
 sorted-unique key [] [] ha hb f g = refl
 sorted-unique key [] (b ∷ m) ha hb f g = absurd (List·Memᴰ·not-nil (g b (List·Memᴰ·head refl)))
 sorted-unique key (a ∷ l) [] ha hb f g = absurd (List·Memᴰ·not-nil (f a (List·Memᴰ·head refl)))
 sorted-unique key (a ∷ l) (b ∷ m) ha hb f g =
-  ap₂ _∷_ same (sorted-unique key l m (ha .1) (hb .1)
+    ap₂ _∷_ same (sorted-unique key l m (ha .1) (hb .1)
     (λ (w : FugueSpan) (k : Mem w l). down l m a b (ha .0) same w k (List·Memᴰ·cases-cons (f w (List·Memᴰ·tail k))))
     (λ (w : FugueSpan) (k : Mem w m). down m l b a (hb .0) (sym same) w k (List·Memᴰ·cases-cons (g w (List·Memᴰ·tail k)))))
   where
@@ -39,17 +39,20 @@ sorted-unique key (a ∷ l) (b ∷ m) ha hb f g =
     heads (inl e) h = e
     heads (inr k) (inl e) = sym e
     heads (inr k) (inr h) = absurd (Lt-asym (key (ref a)) (key (ref b)) (ha .0 b h) (hb .0 a k))
+
     same : a ≡ b
     same = heads (List·Memᴰ·cases-cons (f a (List·Memᴰ·head refl))) (List·Memᴰ·cases-cons (g b (List·Memᴰ·head refl)))
+
     down : (l m : List FugueSpan) (a b : FugueSpan) → ((w : FugueSpan) → Mem w l → Lt (key (ref a)) (key (ref w))) → a ≡ b → (w : FugueSpan) → Mem w l → (w ≡ b) ⊎ Mem w m → Mem w m
     down l m a b h e w k (inl d) = absurd (Lt-irrefl (key (ref a)) (subst (λ (z : FugueSpan). Lt (key (ref a)) (key (ref z))) (d ∙ sym e) (h w k)))
     down l m a b h e w k (inr d) = d
 
 pub sorted-app : (key : OptId → Key) (A B : List FugueSpan) → Sorted key A → Sorted key B → ((v w : FugueSpan) → Mem v A → Mem w B → Lt (key (ref v)) (key (ref w))) → Sorted key (A ++ B)
 sorted-app key [] B sa sb h = sb
-sorted-app key (a ∷ A) B sa sb h =
-  (λ (w : FugueSpan) (m : Mem w (A ++ B)). go w (List·Memᴰ·append-cases A m),
-   sorted-app key A B (sa .1) sb (λ (v w : FugueSpan) (m : Mem v A). h v w (List·Memᴰ·tail m)))
+sorted-app key (a ∷ A) B sa sb h = (
+  λ (w : FugueSpan) (m : Mem w (A ++ B)). go w (List·Memᴰ·append-cases A m),
+  sorted-app key A B (sa .1) sb (λ (v w : FugueSpan) (m : Mem v A). h v w (List·Memᴰ·tail m)),
+)
   where
     go : (w : FugueSpan) → Mem w A ⊎ Mem w B → Lt (key (ref a)) (key (ref w))
     go w (inl m) = sa .0 w m
@@ -72,6 +75,7 @@ keepIf-in t (v ∷ l) w m = go (t v) refl m (keepIf-in t l w)
     two : t v ≡ true → (Mem w (keepIf t l) → Mem w l × (t w ≡ true)) → (w ≡ v) ⊎ Mem w (keepIf t l) → Mem w (v ∷ l) × (t w ≡ true)
     two e ih (inl d) = (List·Memᴰ·head d, ap t d ∙ e)
     two e ih (inr k) = (List·Memᴰ·tail (ih k .0), ih k .1)
+
     go : (b : Bool) → t v ≡ b → Mem w (cond b (v ∷ keepIf t l) (keepIf t l)) → (Mem w (keepIf t l) → Mem w l × (t w ≡ true)) → Mem w (v ∷ l) × (t w ≡ true)
     go true e k ih = two e ih (List·Memᴰ·cases-cons k)
     go false e k ih = (List·Memᴰ·tail (ih k .0), ih k .1)
@@ -139,27 +143,30 @@ lt-step true u v h = h
 lt-step false u v h = h
 
 module _ (key : OptId → Key) (us : List FugueSpan) (wf : (u : FugueSpan) → Mem u us → Hung key (ol u) (u .id) (prOf us u)) (idU : IdSorted us) where
-
   kidsL : (u : FugueSpan) → Kids key us true (key (ref u)) (keepIf (leftKid us (ref u)) us)
   unfolding leftKid
-  kidsL u = record { inUs = λ (v : FugueSpan) (m : Mem v (keepIf (leftKid us (ref u)) us)). keepIf-in (leftKid us (ref u)) us v m .0;
+  kidsL u = record {
+    inUs = λ (v : FugueSpan) (m : Mem v (keepIf (leftKid us (ref u)) us)). keepIf-in (leftKid us (ref u)) us v m .0;
     byKey = λ (v : FugueSpan) (m : Mem v (keepIf (leftKid us (ref u)) us)). go v (keepIf-in (leftKid us (ref u)) us v m);
-    order = keepIf-sorted (leftKid us (ref u)) us idU }
+    order = keepIf-sorted (leftKid us (ref u)) us idU;
+  }
     where
       go : (v : FugueSpan) → Mem v us × (not (isNone (prOf us v)) && sameOpt (prOf us v) (ref u) ≡ true) → key (ref v) ≡ key (ref u) ++ sl (v .id) ∷ []
       go v t = hungL-key key (subst (λ (z : OptId). Hung key (ol v) (v .id) z)
-        (sameOpt-true (prOf us v) (ref u) (and-true (not (isNone (prOf us v))) (sameOpt (prOf us v) (ref u)) (t .1) .1)) (wf v (t .0)))
+          (sameOpt-true (prOf us v) (ref u) (and-true (not (isNone (prOf us v))) (sameOpt (prOf us v) (ref u)) (t .1) .1)) (wf v (t .0)))
 
   kidsR : (r : OptId) → Kids key us false (key r) (keepIf (rightKid us r) us)
   unfolding rightKid
-  kidsR r = record { inUs = λ (v : FugueSpan) (m : Mem v (keepIf (rightKid us r) us)). keepIf-in (rightKid us r) us v m .0;
+  kidsR r = record {
+    inUs = λ (v : FugueSpan) (m : Mem v (keepIf (rightKid us r) us)). keepIf-in (rightKid us r) us v m .0;
     byKey = λ (v : FugueSpan) (m : Mem v (keepIf (rightKid us r) us)). go v (keepIf-in (rightKid us r) us v m);
-    order = keepIf-sorted (rightKid us r) us idU }
+    order = keepIf-sorted (rightKid us r) us idU;
+  }
     where
       go : (v : FugueSpan) → Mem v us × (isNone (prOf us v) && sameOpt (ol v) r ≡ true) → key (ref v) ≡ key r ++ sr (v .id) ∷ []
       go v t =
-        let b : (isNone (prOf us v) ≡ true) × (sameOpt (ol v) r ≡ true) = and-true (isNone (prOf us v)) (sameOpt (ol v) r) (t .1) in
-        subst (λ (z : OptId). key (ref v) ≡ key z ++ sr (v .id) ∷ []) (sameOpt-true (ol v) r (b .1))
+          let b : (isNone (prOf us v) ≡ true) × (sameOpt (ol v) r ≡ true) = and-true (isNone (prOf us v)) (sameOpt (ol v) r) (t .1) in
+          subst (λ (z : OptId). key (ref v) ≡ key z ++ sr (v .id) ∷ []) (sameOpt-true (ol v) r (b .1))
           (hungR-key key (subst (λ (z : OptId). Hung key (ol v) (v .id) z) (isNone-true (prOf us v) (b .0)) (wf v (t .0))))
 
   Rises : List FugueSpan → List FugueSpan → Type 0
@@ -171,25 +178,33 @@ module _ (key : OptId → Key) (us : List FugueSpan) (wf : (u : FugueSpan) → M
 
     below-left : (u w : FugueSpan) → Mem w (f (keepIf (leftKid us (ref u)) us)) → (p : Step) × (q : Key) × IsL p × (key (ref w) ≡ key (ref u) ++ p ∷ q) × Mem w us
     below-left u w m =
-      let d : Under key us (keepIf (leftKid us (ref u)) us) w = ih true (key (ref u)) (keepIf (leftKid us (ref u)) us) (kidsL u) .1 w m in
-      (sl (d .top .id), d .rest, tt,
-        d .path ∙ (ap (λ (z : Key). z ++ d .rest) (kidsL u .byKey (d .top) (d .topIn)) ∙ append-assoc (key (ref u)) (sl (d .top .id) ∷ []) (d .rest)), d .inU)
+        let d : Under key us (keepIf (leftKid us (ref u)) us) w = ih true (key (ref u)) (keepIf (leftKid us (ref u)) us) (kidsL u) .1 w m in (
+          sl (d .top .id),
+          d .rest,
+          tt,
+          d .path ∙ (ap (λ (z : Key). z ++ d .rest) (kidsL u .byKey (d .top) (d .topIn)) ∙ append-assoc (key (ref u)) (sl (d .top .id) ∷ []) (d .rest)),
+          d .inU,
+        )
 
     below-right : (u w : FugueSpan) → Mem w (f (keepIf (rightKid us (ref u)) us)) → (p : Step) × (q : Key) × IsR p × (key (ref w) ≡ key (ref u) ++ p ∷ q) × Mem w us
     below-right u w m =
-      let d : Under key us (keepIf (rightKid us (ref u)) us) w = ih false (key (ref u)) (keepIf (rightKid us (ref u)) us) (kidsR (ref u)) .1 w m in
-      (sr (d .top .id), d .rest, tt,
-        d .path ∙ (ap (λ (z : Key). z ++ d .rest) (kidsR (ref u) .byKey (d .top) (d .topIn)) ∙ append-assoc (key (ref u)) (sr (d .top .id) ∷ []) (d .rest)), d .inU)
+        let d : Under key us (keepIf (rightKid us (ref u)) us) w = ih false (key (ref u)) (keepIf (rightKid us (ref u)) us) (kidsR (ref u)) .1 w m in (
+          sr (d .top .id),
+          d .rest,
+          tt,
+          d .path ∙ (ap (λ (z : Key). z ++ d .rest) (kidsR (ref u) .byKey (d .top) (d .topIn)) ∙ append-assoc (key (ref u)) (sr (d .top .id) ∷ []) (d .rest)),
+          d .inU,
+        )
 
     left-lt : (u w : FugueSpan) → Mem w (f (keepIf (leftKid us (ref u)) us)) → Lt (key (ref w)) (key (ref u))
     left-lt u w m =
-      let d : (p : Step) × (q : Key) × IsL p × (key (ref w) ≡ key (ref u) ++ p ∷ q) × Mem w us = below-left u w m in
-      subst (λ (z : Key). Lt z (key (ref u))) (sym (d .3)) (Lt-left (key (ref u)) (d .0) (d .1) (d .2))
+        let d : (p : Step) × (q : Key) × IsL p × (key (ref w) ≡ key (ref u) ++ p ∷ q) × Mem w us = below-left u w m in
+        subst (λ (z : Key). Lt z (key (ref u))) (sym (d .3)) (Lt-left (key (ref u)) (d .0) (d .1) (d .2))
 
     right-lt : (u w : FugueSpan) → Mem w (f (keepIf (rightKid us (ref u)) us)) → Lt (key (ref u)) (key (ref w))
     right-lt u w m =
-      let d : (p : Step) × (q : Key) × IsR p × (key (ref w) ≡ key (ref u) ++ p ∷ q) × Mem w us = below-right u w m in
-      subst (λ (z : Key). Lt (key (ref u)) z) (sym (d .3)) (Lt-right (key (ref u)) (d .0) (d .1) (d .2))
+        let d : (p : Step) × (q : Key) × IsR p × (key (ref w) ≡ key (ref u) ++ p ∷ q) × Mem w us = below-right u w m in
+        subst (λ (z : Key). Lt (key (ref u)) z) (sym (d .3)) (Lt-right (key (ref u)) (d .0) (d .1) (d .2))
 
     block-sorted : (u : FugueSpan) → Sorted key (f (keepIf (leftKid us (ref u)) us) ++ (u ∷ f (keepIf (rightKid us (ref u)) us)))
     block-sorted u = sorted-app key (f (keepIf (leftKid us (ref u)) us)) (u ∷ f (keepIf (rightKid us (ref u)) us))
@@ -202,43 +217,49 @@ module _ (key : OptId → Key) (us : List FugueSpan) (wf : (u : FugueSpan) → M
         go v w mv (inr m) = Lt-trans (key (ref v)) (key (ref u)) (key (ref w)) (left-lt u v mv) (right-lt u w m)
 
     block-under : (u : FugueSpan) → Mem u us → (w : FugueSpan) → Mem w (f (keepIf (leftKid us (ref u)) us) ++ (u ∷ f (keepIf (rightKid us (ref u)) us)))
-      → (q : Key) × (key (ref w) ≡ key (ref u) ++ q) × Mem w us
+        → (q : Key) × (key (ref w) ≡ key (ref u) ++ q) × Mem w us
     block-under u mu w m = go (List·Memᴰ·append-cases (f (keepIf (leftKid us (ref u)) us)) m)
       where
         go2 : (w ≡ u) ⊎ Mem w (f (keepIf (rightKid us (ref u)) us)) → (q : Key) × (key (ref w) ≡ key (ref u) ++ q) × Mem w us
         go2 (inl e) = ([], ap (λ (z : FugueSpan). key (ref z)) e ∙ sym (append-nil (key (ref u))), Memᴰ·cast e mu)
         go2 (inr k) = let d : (p : Step) × (q : Key) × IsR p × (key (ref w) ≡ key (ref u) ++ p ∷ q) × Mem w us = below-right u w k in (d .0 ∷ d .1, d .3, d .4)
+
         go : Mem w (f (keepIf (leftKid us (ref u)) us)) ⊎ Mem w (u ∷ f (keepIf (rightKid us (ref u)) us)) → (q : Key) × (key (ref w) ≡ key (ref u) ++ q) × Mem w us
         go (inl k) = let d : (p : Step) × (q : Key) × IsL p × (key (ref w) ≡ key (ref u) ++ p ∷ q) × Mem w us = below-left u w k in (d .0 ∷ d .1, d .3, d .4)
         go (inr k) = go2 (List·Memᴰ·cases-cons k)
 
     each-step : (left : Bool) (k : Key) (u : FugueSpan) (s : List FugueSpan) → Kids key us left k (u ∷ s)
-      → (Kids key us left k s → Sorted key (walkEach f us s) × ((w : FugueSpan) → Mem w (walkEach f us s) → Under key us s w))
-      → Sorted key (walkEach f us (u ∷ s)) × ((w : FugueSpan) → Mem w (walkEach f us (u ∷ s)) → Under key us (u ∷ s) w)
+        → (Kids key us left k s → Sorted key (walkEach f us s) × ((w : FugueSpan) → Mem w (walkEach f us s) → Under key us s w))
+        → Sorted key (walkEach f us (u ∷ s)) × ((w : FugueSpan) → Mem w (walkEach f us (u ∷ s)) → Under key us (u ∷ s) w)
     unfolding walkEach
     each-step left k u s ks before = (sorted-app key bl (walkEach f us s) (block-sorted u) (rec .0) apart, λ (w : FugueSpan) (m : Mem w (bl ++ walkEach f us s)). go w (List·Memᴰ·append-cases bl m))
       where
         bl : List FugueSpan
         bl = f (keepIf (leftKid us (ref u)) us) ++ (u ∷ f (keepIf (rightKid us (ref u)) us))
+
         mu : Mem u us
         mu = ks .inUs u (List·Memᴰ·head refl)
+
         kt : Kids key us left k s
         kt = record { inUs = λ (v : FugueSpan) (m : Mem v s). ks .inUs v (List·Memᴰ·tail m); byKey = λ (v : FugueSpan) (m : Mem v s). ks .byKey v (List·Memᴰ·tail m); order = ks .order .1 }
+
         rec : Sorted key (walkEach f us s) × ((w : FugueSpan) → Mem w (walkEach f us s) → Under key us s w)
         rec = before kt
+
         apart : (v w : FugueSpan) → Mem v bl → Mem w (walkEach f us s) → Lt (key (ref v)) (key (ref w))
         apart v w mv mw =
-          let a : (q : Key) × (key (ref v) ≡ key (ref u) ++ q) × Mem v us = block-under u mu v mv in
-          let b : Under key us s w = rec .1 w mw in
-          subst₂ Lt
+            let a : (q : Key) × (key (ref v) ≡ key (ref u) ++ q) × Mem v us = block-under u mu v mv in
+            let b : Under key us s w = rec .1 w mw in
+            subst₂ Lt
             (sym (a .1 ∙ (ap (λ (z : Key). z ++ a .0) (ks .byKey u (List·Memᴰ·head refl)) ∙ append-assoc k (stepOf left u ∷ []) (a .0))))
             (sym (b .path ∙ (ap (λ (z : Key). z ++ b .rest) (kt .byKey (b .top) (b .topIn)) ∙ append-assoc k (stepOf left (b .top) ∷ []) (b .rest))))
             (Lt-prefix k (stepOf left u ∷ a .0) (stepOf left (b .top) ∷ b .rest) (inl (lt-step left u (b .top) (ks .order .0 (b .top) (b .topIn)))))
+
         go : (w : FugueSpan) → Mem w bl ⊎ Mem w (walkEach f us s) → Under key us (u ∷ s) w
         go w (inl m) = let a : (q : Key) × (key (ref w) ≡ key (ref u) ++ q) × Mem w us = block-under u mu w m in
-          record { top = u; topIn = List·Memᴰ·head refl; rest = a .0; path = a .1; inU = a .2 }
+            record { top = u; topIn = List·Memᴰ·head refl; rest = a .0; path = a .1; inU = a .2 }
         go w (inr m) = let b : Under key us s w = rec .1 w m in
-          record { top = b .top; topIn = List·Memᴰ·tail (b .topIn); rest = b .rest; path = b .path; inU = b .inU }
+            record { top = b .top; topIn = List·Memᴰ·tail (b .topIn); rest = b .rest; path = b .path; inU = b .inU }
 
     each : (left : Bool) (k : Key) (s : List FugueSpan) → Kids key us left k s → Sorted key (walkEach f us s) × ((w : FugueSpan) → Mem w (walkEach f us s) → Under key us s w)
     unfolding walkEach
@@ -257,13 +278,14 @@ module _ (key : OptId → Key) (us : List FugueSpan) (wf : (u : FugueSpan) → M
     goR : {d : ℕ} {s : List FugueSpan} {w : FugueSpan} (v : FugueSpan) → Mem v s → Reach d (keepIf (rightKid us (ref v)) us) w → Reach (suc d) s w
 
   in-block : (f : List FugueSpan → List FugueSpan) (s : List FugueSpan) (v w : FugueSpan) → Mem v s
-    → Mem w (f (keepIf (leftKid us (ref v)) us) ++ (v ∷ f (keepIf (rightKid us (ref v)) us))) → Mem w (walkEach f us s)
+      → Mem w (f (keepIf (leftKid us (ref v)) us) ++ (v ∷ f (keepIf (rightKid us (ref v)) us))) → Mem w (walkEach f us s)
   unfolding walkEach
   in-block f [] v w m k = absurd (List·Memᴰ·not-nil m)
   in-block f (u ∷ s) v w m k = go (List·Memᴰ·cases-cons m) (λ (h : Mem v s). in-block f s v w h k)
     where
       bl : FugueSpan → List FugueSpan
       bl z = f (keepIf (leftKid us (ref z)) us) ++ (z ∷ f (keepIf (rightKid us (ref z)) us))
+
       go : (v ≡ u) ⊎ Mem v s → (Mem v s → Mem w (walkEach f us s)) → Mem w (bl u ++ walkEach f us s)
       go (inl e) ih = Memᴰ·append-left (walkEach f us s) (subst (λ (z : FugueSpan). Mem w (bl z)) e k)
       go (inr h) ih = Memᴰ·append-right (bl u) (ih h)
@@ -302,15 +324,17 @@ module _ (key : OptId → Key) (us : List FugueSpan) (wf : (u : FugueSpan) → M
     left-kid u v m e = keepIf-keeps (leftKid us (ref v)) us u m (ap₂ (λ (a : OptId) (b : Bool). not (isNone a) && b) e (true-sameOpt (prOf us u) (ref v) e))
 
     reach-step : (n : ℕ) (u : FugueSpan) → Mem u us → length (key (ref u)) ≡ suc n
-      → ((w : FugueSpan) → Mem w us → length (key (ref w)) ≡ n → Reach n (keepIf (rightKid us Nothing) us) w) → Reach (suc n) (keepIf (rightKid us Nothing) us) u
+        → ((w : FugueSpan) → Mem w us → length (key (ref w)) ≡ n → Reach n (keepIf (rightKid us Nothing) us) w) → Reach (suc n) (keepIf (rightKid us Nothing) us) u
     reach-step n u m e ih = go (prOf us u) refl (prIn u m) (wf u m)
       where
         at-ol : prOf us u ≡ Nothing → length (key (ol u)) ≡ n → In (ol u) us → Reach (suc n) (keepIf (rightKid us Nothing) us) u
         at-ol d h (inl f) = here (right-kid u Nothing m d f)
         at-ol d h (inr t) = reach-right (ih (t .0) (t .1) (ap (λ (z : OptId). length (key z)) (t .2) ∙ h)) u (right-kid u (ref (t .0)) m d (sym (t .2)))
+
         at-pr : (a : Id) → prOf us u ≡ At a → length (key (At a)) ≡ n → In (prOf us u) us → Reach (suc n) (keepIf (rightKid us Nothing) us) u
         at-pr a d h (inl f) = absurd (none≢at (sym f ∙ d))
         at-pr a d h (inr t) = reach-left (ih (t .0) (t .1) (ap (λ (z : OptId). length (key z)) (t .2 ∙ d) ∙ h)) u (left-kid u (t .0) m (sym (t .2)))
+
         go : (r : OptId) → prOf us u ≡ r → In (prOf us u) us → Hung key (ol u) (u .id) r → Reach (suc n) (keepIf (rightKid us Nothing) us) u
         go Nothing d i (hungR k) = at-ol d (let h : length (key (ol u) ++ sr (u .id) ∷ []) ≡ suc n = ap length (sym k) ∙ e in omega (arith, length-append (key (ol u)) (sr (u .id) ∷ []))) (olIn u m)
         go (At a) d i (hungL s ms ir al er ek) = at-pr a d (let h : length (key (At a) ++ sl (u .id) ∷ []) ≡ suc n = ap length (sym ek) ∙ e in omega (arith, length-append (key (At a)) (sl (u .id) ∷ []))) i
@@ -339,7 +363,7 @@ module _ (key : OptId → Key) (us : List FugueSpan) (wf : (u : FugueSpan) → M
       pub in-walk : (w : FugueSpan) → Mem w us → Mem w (walk us)
       unfolding walk
       in-walk w m = reach-in (subst (λ (n : ℕ). Reach n (keepIf (rightKid us Nothing) us) w) (sub-back (length us) (length (key (ref w))) (deep w m))
-        (reach-upto (length us - length (key (ref w))) (length (key (ref w))) (reach (length (key (ref w))) w m refl)))
+          (reach-upto (length us - length (key (ref w))) (length (key (ref w))) (reach (length (key (ref w))) w m refl)))
 
 -- ---- a good list is the walk of its units
 
@@ -353,6 +377,7 @@ sorted-uniq key (v ∷ l) s u w mu mw e = go (List·Memᴰ·cases-cons mu) (List
   where
     no : (z : FugueSpan) → Mem z l → ref v ≡ ref z → ⊥
     no z m d = Lt-irrefl (key (ref v)) (subst (λ (r : OptId). Lt (key (ref v)) (key r)) (sym d) (s .0 z m))
+
     go : (u ≡ v) ⊎ Mem u l → (w ≡ v) ⊎ Mem w l → (Mem u l → Mem w l → u ≡ w) → u ≡ w
     go (inl a) (inl b) ih = a ∙ sym b
     go (inl a) (inr b) ih = absurd (no w b (ap ref (sym a) ∙ e))
@@ -368,10 +393,10 @@ hasOl-uniq [] r x un = fail refl (λ (t : Has [] r x). List·Memᴰ·not-nil (t 
 hasOl-uniq (v ∷ l) r x un = go (sameOpt-test r (ref v)) (sameOpt-test (ol v) x) (hasOl-uniq l r x (λ (u w : FugueSpan) (a : Mem u l) (b : Mem w l). un u w (List·Memᴰ·tail a) (List·Memᴰ·tail b)))
   where
     go : Test (sameOpt r (ref v)) (r ≡ ref v) → Test (sameOpt (ol v) x) (ol v ≡ x) → Test (hasOl l r x) (Has l r x)
-      → Test (cond (sameOpt r (ref v)) (sameOpt (ol v) x) (hasOl l r x)) (Has (v ∷ l) r x)
+        → Test (cond (sameOpt r (ref v)) (sameOpt (ol v) x) (hasOl l r x)) (Has (v ∷ l) r x)
     go (pass e h) (pass e′ d) t = pass (ap (λ (b : Bool). cond b (sameOpt (ol v) x) (hasOl l r x)) e ∙ e′) (v, List·Memᴰ·head refl, sym h, d)
     go (pass e h) (fail e′ n) t = fail (ap (λ (b : Bool). cond b (sameOpt (ol v) x) (hasOl l r x)) e ∙ e′)
-      (λ (g : Has (v ∷ l) r x). n (ap (λ (u : FugueSpan). ol u) (sym (un (g .0) v (g .1) (List·Memᴰ·head refl) (g .2 ∙ h))) ∙ g .3))
+        (λ (g : Has (v ∷ l) r x). n (ap (λ (u : FugueSpan). ol u) (sym (un (g .0) v (g .1) (List·Memᴰ·head refl) (g .2 ∙ h))) ∙ g .3))
     go (fail e h) o (pass e′ t) = pass (ap (λ (b : Bool). cond b (sameOpt (ol v) x) (hasOl l r x)) e ∙ e′) (t .0, List·Memᴰ·tail (t .1), t .2, t .3)
     go (fail e h) o (fail e′ n) = fail (ap (λ (b : Bool). cond b (sameOpt (ol v) x) (hasOl l r x)) e ∙ e′) (λ (g : Has (v ∷ l) r x). split g (List·Memᴰ·cases-cons (g .1)))
       where
@@ -385,6 +410,7 @@ module _ (key : OptId → Key) (l us : List FugueSpan) (g : Good key l) (idU : I
     where
       un : (u w : FugueSpan) → Mem u l → Mem w l → ref u ≡ ref w → u ≡ w
       un = sorted-uniq key l (g .sorted)
+
       go : Test (hasOl l r x) (Has l r x) → Test (hasOl us r x) (Has us r x) → hasOl l r x ≡ hasOl us r x
       go (pass e t) (pass d s) = e ∙ sym d
       go (pass e t) (fail d n) = absurd (n (t .0, to (t .0) (t .1), t .2, t .3))
@@ -411,7 +437,9 @@ module _ (key : OptId → Key) (l us : List FugueSpan) (g : Good key l) (idU : I
     where
       wfU : (u : FugueSpan) → Mem u us → Hung key (ol u) (u .id) (prOf us u)
       wfU u m = subst (λ (z : OptId). Hung key (ol u) (u .id) z) (same-pr u) (g .wf u (from u m))
+
       olU : (u : FugueSpan) → Mem u us → In (ol u) us
       olU u m = In-to (ol u) (g .olIn u (from u m))
+
       prU : (u : FugueSpan) → Mem u us → In (prOf us u) us
       prU u m = subst (λ (z : OptId). In z us) (same-pr u) (In-to (prOf l u) (pr-in-l u))
