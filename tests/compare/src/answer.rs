@@ -4,17 +4,8 @@ use model01::*;
 /// A call as the lane program reads it. The drivers' words are the same, but for chunks that none of them name.
 pub fn line(call: &Call) -> String {
     match call {
-        Call::Insert {
-            pos,
-            peer,
-            ctr,
-            lam,
-            chunk: (MOVE_ANCHOR, b),
-        } if *b != MOVE_ANCHOR => {
-            format!(
-                "insert {pos} {} {ctr} {lam} raw {MOVE_ANCHOR} {b}",
-                show_peer(*peer)
-            )
+        Call::Insert { pos, peer, ctr, lam, chunk: (MOVE_ANCHOR, b) } if *b != MOVE_ANCHOR => {
+            format!("insert {pos} {} {ctr} {lam} raw {MOVE_ANCHOR} {b}", show_peer(*peer))
         }
         _ => show_call(call),
     }
@@ -23,6 +14,18 @@ pub fn line(call: &Call) -> String {
 /// The call that a line is.
 pub fn call(line: &str) -> Result<Call, String> {
     parse(&line.replace(" raw ", " text "))
+}
+
+/// An item of a visible list: its id and its chunk of one unit.
+pub type Item = (Id, (u32, u32));
+
+/// A list that the lane program printed.
+pub fn list(said: &[String]) -> Option<Vec<Item>> {
+    let item = |l: &String| match l.split(' ').collect::<Vec<_>>()[..] {
+        ["item", i, ref rest @ ..] => Some((id(i)?, chunk(rest)?)),
+        _ => None,
+    };
+    said[0].starts_with("list ").then(|| said[1..].iter().map(item).collect())?
 }
 
 /// What the lane program answered. A refusal is `Refused`; an answer that is not formed as SCRIPT.md says is an error.
@@ -49,11 +52,7 @@ fn answer(said: &[String]) -> Option<Answer> {
 
 fn id(word: &str) -> Option<Id> {
     let (peer, counter) = word.split_once('.')?;
-    let peer = if peer == "U" {
-        UNKNOWN_PEER
-    } else {
-        peer.parse().ok()?
-    };
+    let peer = if peer == "U" { UNKNOWN_PEER } else { peer.parse().ok()? };
     Some((peer, counter.parse().ok()?))
 }
 
@@ -108,10 +107,8 @@ fn unit(words: &[&str]) -> Option<Unit> {
 fn piece(words: &[&str]) -> Option<(Unit, usize)> {
     let (span, len): (Unit, u32) = (unit(&words[2..])?, words[1].parse().ok()?);
     let fits = |id: Id| id.1 >= 0 && id.1 as i64 + len as i64 <= i32::MAX as i64;
-    let whole = chunk_len(span.chunk) == Some(len)
-        && fits(span.id)
-        && span.real.is_none_or(fits)
-        && span.lamport.checked_add(len).is_some();
+    let whole =
+        chunk_len(span.chunk) == Some(len) && fits(span.id) && span.real.is_none_or(fits) && span.lamport.checked_add(len).is_some();
     whole.then_some((span, len as usize))
 }
 
@@ -119,11 +116,9 @@ fn entry(words: &[&str]) -> Option<Entry> {
     Some(match words {
         ["retain", n] => Entry::Retain(n.parse().ok()?),
         ["delete", n] => Entry::Delete(n.parse().ok()?),
-        ["insert", i, lamport, rest @ ..] => Entry::Insert {
-            chunk: chunk(rest)?,
-            id: id(i)?,
-            lamport: maybe(lamport, |l| l.parse().ok())?,
-        },
+        ["insert", i, lamport, rest @ ..] => {
+            Entry::Insert { chunk: chunk(rest)?, id: id(i)?, lamport: maybe(lamport, |l| l.parse().ok())? }
+        }
         _ => return None,
     })
 }

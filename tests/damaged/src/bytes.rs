@@ -18,9 +18,7 @@ pub fn run(scripts: u64, seed: u64) -> bool {
             Err(why) => {
                 let (script, why) = fewest(&lane, script, why);
                 println!("A FAULT (seed {s}): {why}. The script:");
-                script
-                    .iter()
-                    .for_each(|l| println!("    {:?}", String::from_utf8_lossy(l)));
+                script.iter().for_each(|l| println!("    {:?}", String::from_utf8_lossy(l)));
                 return false;
             }
         }
@@ -37,15 +35,9 @@ fn fault(lane: &Lane, script: &[Vec<u8>]) -> Result<(usize, usize), String> {
     }
     let expected = script.iter().filter(|l| asks(l)).count();
     if run.answers.len() != expected {
-        return Err(format!(
-            "{expected} lines ask something, {} are answered",
-            run.answers.len()
-        ));
+        return Err(format!("{expected} lines ask something, {} are answered", run.answers.len()));
     }
-    Ok((
-        expected,
-        run.answers.iter().filter(|a| a[0] == "error").count(),
-    ))
+    Ok((expected, run.answers.iter().filter(|a| a[0] == "error").count()))
 }
 
 /// The script with lines left out while some fault remains.
@@ -70,10 +62,7 @@ fn fewest(lane: &Lane, mut script: Vec<Vec<u8>>, mut why: String) -> (Vec<Vec<u8
 fn bare(line: &[u8]) -> &[u8] {
     let line = line.split(|b| *b == b'#').next().unwrap_or(&[]);
     let from = line.iter().position(|b| *b != b' ').unwrap_or(line.len());
-    let to = line
-        .iter()
-        .rposition(|b| *b != b' ')
-        .map_or(from, |i| i + 1);
+    let to = line.iter().rposition(|b| *b != b' ').map_or(from, |i| i + 1);
     &line[from..to]
 }
 
@@ -86,26 +75,10 @@ fn script(random: &mut Random) -> Vec<Vec<u8>> {
     let mut out = Vec::new();
     for _ in 0..50 + random.below(300) {
         let mut line = match random.below(20) {
-            0 => (0..random.below(60))
-                .map(|_| random.below(256) as u8)
-                .collect(),
-            1 => (0..random.below(40))
-                .map(|_| random.pick(b"0123456789 .:-,U#\t"))
-                .collect(),
+            0 => (0..random.below(60)).map(|_| random.below(256) as u8).collect(),
+            1 => (0..random.below(40)).map(|_| random.pick(b"0123456789 .:-,U#\t")).collect(),
             2 if random.one_in(4) => vec![random.pick(b"1a -"); 4090 + random.below(10)],
-            3 => random
-                .pick(&[
-                    "empty",
-                    "placeholder 3",
-                    "new 0",
-                    "new 4",
-                    "room 5",
-                    "out 2",
-                    "out 9999",
-                    "rows 2",
-                    "sum",
-                ])
-                .into(),
+            3 => random.pick(&["empty", "placeholder 3", "new 0", "new 4", "room 5", "out 2", "out 9999", "rows 2", "sum"]).into(),
             4 => random
                 .pick(&[
                     "ins - 0 1 0 0 text 0 2",
@@ -121,12 +94,7 @@ fn script(random: &mut Random) -> Vec<Vec<u8>> {
         };
         line.retain(|b| *b != b'\n');
         // a line of other blanks only: SCRIPT.md does not say whether it is empty
-        if line.len() <= 4096
-            && !bare(&line).is_empty()
-            && bare(&line)
-                .iter()
-                .all(|b| b.is_ascii_whitespace() || *b == 11)
-        {
+        if line.len() <= 4096 && !bare(&line).is_empty() && bare(&line).iter().all(|b| b.is_ascii_whitespace() || *b == 11) {
             line.insert(0, b'x');
         }
         // a long line must ask something, or it might be a comment or blanks

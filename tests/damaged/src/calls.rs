@@ -43,52 +43,26 @@ fn chunk(random: &mut Random) -> String {
         3 | 4 => format!("start {a}"),
         5 | 6 => format!("end {a}"),
         7 | 8 => "move".into(),
-        9..=11 => format!(
-            "raw {} {}",
-            random.pick(&[4_294_967_292u32, 4_294_967_293, 5]),
-            random.pick(&[0u32, 4_294_967_292, 5])
-        ),
+        9..=11 => format!("raw {} {}", random.pick(&[4_294_967_292u32, 4_294_967_293, 5]), random.pick(&[0u32, 4_294_967_292, 5])),
         12 => format!("text {a} {}", a + 65_530),
         _ => format!("text {a} {}", a + len),
     }
 }
 
 pub fn insert(random: &mut Random) -> String {
-    format!(
-        "insert {} {} {} {} {}",
-        position(random),
-        peer(random),
-        counter(random),
-        number(random),
-        chunk(random)
-    )
+    format!("insert {} {} {} {} {}", position(random), peer(random), counter(random), number(random), chunk(random))
 }
 
 pub fn delete(random: &mut Random) -> String {
-    let len = if random.one_in(40) {
-        4_294_967_295
-    } else {
-        random.below(4) as u64
-    };
-    format!(
-        "delete {} {len} {} {} {}",
-        position(random),
-        peer(random),
-        counter(random),
-        random.below(2)
-    )
+    let len = if random.one_in(40) { 4_294_967_295 } else { random.below(4) as u64 };
+    format!("delete {} {len} {} {} {}", position(random), peer(random), counter(random), random.below(2))
 }
 
 pub fn update(random: &mut Random) -> String {
     let from = counter(random);
     let to = (from + random.below(4) as i64).min(2_147_483_647);
     let change = random.pick(&[0, 0, 0, 1, 1, -1, 32_767, -32_768]);
-    format!(
-        "update {} {from} {to} {} {change} {}",
-        peer(random),
-        random.pick(&["future", "now", "keep"]),
-        random.below(2)
-    )
+    format!("update {} {from} {to} {} {change} {}", peer(random), random.pick(&["future", "now", "keep"]), random.below(2))
 }
 
 /// The i-th call that builds a store. Most inserts are accepted, and some run on from the peer's last.
@@ -99,14 +73,7 @@ pub fn building(random: &mut Random, i: usize) -> String {
         3 => insert(random),
         _ => {
             let len = 1 + random.below(4);
-            format!(
-                "insert {} {} {} {i} text {} {}",
-                random.below(4),
-                1 + random.below(3),
-                4 * i,
-                4 * i,
-                4 * i + len
-            )
+            format!("insert {} {} {} {i} text {} {}", random.below(4), 1 + random.below(3), 4 * i, 4 * i, 4 * i + len)
         }
     }
 }
@@ -123,14 +90,6 @@ pub fn any(random: &mut Random) -> String {
         12 => random.pick(&["len", "dump"]).into(),
         13 => random.pick(&["spans", "visible"]).into(),
         14 => random.pick(&["placeholder 0", "placeholder 65537"]).into(),
-        _ => random
-            .pick(&[
-                "checkout -",
-                "ins - 0 1 0 0 text 0 1",
-                "delta - -",
-                "insert 0 1 0 text",
-                "rows 65537",
-            ])
-            .into(),
+        _ => random.pick(&["checkout -", "ins - 0 1 0 0 text 0 1", "delta - -", "insert 0 1 0 text", "rows 65537"]).into(),
     }
 }

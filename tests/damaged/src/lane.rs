@@ -26,11 +26,7 @@ impl Lane {
         let command = std::env::var("LANE").unwrap_or_else(|_| "target/bin/lane".into());
         let dir = PathBuf::from(dir);
         std::fs::create_dir_all(&dir).expect("the folder for the runs is made");
-        Lane {
-            command: command.split_whitespace().map(String::from).collect(),
-            dir,
-            limit: Duration::from_secs(300),
-        }
+        Lane { command: command.split_whitespace().map(String::from).collect(), dir, limit: Duration::from_secs(300) }
     }
 
     pub fn run(&self, script: &[u8]) -> Run {
@@ -59,17 +55,11 @@ impl Lane {
         };
         let complaints = std::fs::read(path("complaints")).expect("the complaints are read");
         if fault.is_none() && !complaints.is_empty() {
-            fault = Some(format!(
-                "the program complained: {}",
-                String::from_utf8_lossy(&complaints)
-            ));
+            fault = Some(format!("the program complained: {}", String::from_utf8_lossy(&complaints)));
         }
         let text = std::fs::read(path("answers")).expect("the answers are read");
         let (answers, broken) = group(&String::from_utf8_lossy(&text));
-        Run {
-            answers,
-            fault: fault.or(broken),
-        }
+        Run { answers, fault: fault.or(broken) }
     }
 }
 
@@ -94,12 +84,7 @@ fn group(text: &str) -> (Vec<Said>, Option<String>) {
         if left > 0 {
             let answer = answers.last_mut().expect("a first line stands before");
             if !announced(answer[0].split(' ').next().unwrap_or("")).contains(&word) {
-                return (
-                    answers,
-                    Some(format!(
-                        "`{line}` stands where {left} more lines were announced"
-                    )),
-                );
+                return (answers, Some(format!("`{line}` stands where {left} more lines were announced")));
             }
             answer.push(line.into());
             left -= 1;
@@ -108,19 +93,13 @@ fn group(text: &str) -> (Vec<Said>, Option<String>) {
         if !announced(word).is_empty() {
             match line.split_once(' ').and_then(|(_, n)| n.parse().ok()) {
                 Some(n) => left = n,
-                None => {
-                    return (
-                        answers,
-                        Some(format!("`{line}` announces no number of lines")),
-                    )
-                }
+                None => return (answers, Some(format!("`{line}` announces no number of lines"))),
             }
         } else if !["ok", "error", "no", "at", "len", "sum"].contains(&word) {
             return (answers, Some(format!("`{line}` is no answer")));
         }
         answers.push(vec![line.into()]);
     }
-    let broken =
-        (left > 0).then(|| format!("the answers end where {left} more lines were announced"));
+    let broken = (left > 0).then(|| format!("the answers end where {left} more lines were announced"));
     (answers, broken)
 }

@@ -26,9 +26,7 @@ impl Row {
             return None;
         };
         let chunk = match chunk {
-            ["text", a, b] | ["raw", a, b] | [a, b] if a.parse::<u32>().is_ok() => {
-                (a.parse().ok()?, b.parse().ok()?)
-            }
+            ["text", a, b] | ["raw", a, b] | [a, b] if a.parse::<u32>().is_ok() => (a.parse().ok()?, b.parse().ok()?),
             ["unknown", n] => (UNKNOWN, n.parse().ok()?),
             ["start", i] => (START, i.parse().ok()?),
             ["end", i] => (END, i.parse().ok()?),
@@ -87,9 +85,7 @@ impl Row {
     fn sound(&self) -> bool {
         let Some(len) = self.len() else { return false };
         let fits = |id: Id| id.1 >= 0 && id.1 as i64 + len as i64 <= 2_147_483_647;
-        fits(self.id)
-            && self.lamport as u64 + len as u64 <= 4_294_967_295
-            && self.real.is_none_or(|r| r.0 != UNKNOWN_PEER && fits(r))
+        fits(self.id) && self.lamport as u64 + len as u64 <= 4_294_967_295 && self.real.is_none_or(|r| r.0 != UNKNOWN_PEER && fits(r))
     }
 
     /// The ids of its units, where it is sound.
@@ -125,25 +121,14 @@ pub fn well_formed(rows: &[Row]) -> bool {
     let units = |r: &Row| r.len().unwrap_or(0) as u64;
     rows.iter().all(Row::sound)
         && rows.iter().map(units).sum::<u64>() <= 65_536
-        && rows
-            .iter()
-            .enumerate()
-            .all(|(i, a)| rows[..i].iter().all(|b| !b.holds(a.id) && !a.holds(b.id)))
-        && rows
-            .iter()
-            .flat_map(|r| [r.left, r.right])
-            .flatten()
-            .all(|o| rows.iter().any(|r| r.holds(o)))
+        && rows.iter().enumerate().all(|(i, a)| rows[..i].iter().all(|b| !b.holds(a.id) && !a.holds(b.id)))
+        && rows.iter().flat_map(|r| [r.left, r.right]).flatten().all(|o| rows.iter().any(|r| r.holds(o)))
         && rows.windows(2).all(|w| !w[0].joins(&w[1]))
 }
 
 fn read_id(word: &str) -> Option<Id> {
     let (peer, counter) = word.split_once('.')?;
-    let peer = if peer == "U" {
-        UNKNOWN_PEER
-    } else {
-        peer.parse().ok()?
-    };
+    let peer = if peer == "U" { UNKNOWN_PEER } else { peer.parse().ok()? };
     Some((peer, counter.parse().ok()?))
 }
 

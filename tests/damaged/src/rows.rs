@@ -38,20 +38,13 @@ pub fn run(stores: u64, seed: u64) -> bool {
         let seeds = seed + from..seed + stores.min(from + 500);
         let mut batch: Vec<Store> = seeds.map(built).collect();
         // the good stores, read back
-        let text: String = batch
-            .iter()
-            .map(|s| s.build.join("\n") + "\nspans\n")
-            .collect();
+        let text: String = batch.iter().map(|s| s.build.join("\n") + "\nspans\n").collect();
         let read = lane.run(text.as_bytes());
         let mut at = 0;
         for store in &mut batch {
             at += store.build.len();
             let Some(rows) = read.answers.get(at).and_then(|said| rows_of(said)) else {
-                println!(
-                    "A FAULT: the store of seed {} cannot be read: {:?}",
-                    store.seed,
-                    read.answers.get(at)
-                );
+                println!("A FAULT: the store of seed {} cannot be read: {:?}", store.seed, read.answers.get(at));
                 store.build.iter().for_each(|l| println!("    {l}"));
                 return false;
             };
@@ -68,10 +61,7 @@ pub fn run(stores: u64, seed: u64) -> bool {
             let said = run.answers.get(at..).unwrap_or(&[]);
             at += asked.len();
             if let Err((line, why)) = judge(store, said, &mut tally) {
-                println!(
-                    "A FAULT (seed {}): {why}. The script up to there:",
-                    store.seed
-                );
+                println!("A FAULT (seed {}): {why}. The script up to there:", store.seed);
                 asked[..=line].iter().for_each(|l| println!("    {l}"));
                 run.fault.iter().for_each(|f| println!("{f}"));
                 return false;
@@ -87,15 +77,7 @@ pub fn run(stores: u64, seed: u64) -> bool {
         "{} stores, {} of them damaged as 15 says; {} calls accepted, {} lines answered `error`, {refused} calls refused, each with the same sum before and after; {} of {} changes by `row` and `rows` seen in the sum.",
         tally.stores, tally.damaged, tally.accepted, tally.errors, tally.seen, tally.writes
     );
-    println!(
-        "Refusals: {}",
-        tally
-            .refused
-            .iter()
-            .map(|(k, n)| format!("{k}: {n}"))
-            .collect::<Vec<_>>()
-            .join(", ")
-    );
+    println!("Refusals: {}", tally.refused.iter().map(|(k, n)| format!("{k}: {n}")).collect::<Vec<_>>().join(", "));
     // a sum that sees no rows would prove nothing
     tally.seen * 10 >= tally.writes * 9
 }
@@ -105,39 +87,24 @@ fn built(seed: u64) -> Store {
     let small = random.one_in(2);
     let room = if small { 2 + random.below(9) } else { 8192 };
     let mut build = vec![format!("room {room}"), "out 8192".into()];
-    build.push(if random.one_in(3) {
-        format!("placeholder {}", 1 + random.below(4))
-    } else {
-        "empty".into()
-    });
+    build.push(if random.one_in(3) { format!("placeholder {}", 1 + random.below(4)) } else { "empty".into() });
     for i in 0..3 + random.below(20) {
         build.push(calls::building(&mut random, i));
     }
-    Store {
-        seed,
-        build,
-        room,
-        damage: vec![],
-        rows: vec![],
-        calls: vec![],
-    }
+    Store { seed, build, room, damage: vec![], rows: vec![], calls: vec![] }
 }
 
 fn rows_of(said: &Said) -> Option<Vec<Row>> {
     if !said[0].starts_with("spans ") {
         return None;
     }
-    said[1..]
-        .iter()
-        .map(|l| Row::read(&l.split(' ').skip(2).collect::<Vec<_>>()))
-        .collect()
+    said[1..].iter().map(|l| Row::read(&l.split(' ').skip(2).collect::<Vec<_>>())).collect()
 }
 
 impl Store {
     fn write(&mut self, i: usize, row: Row) {
         let changes = self.rows.get(i).is_some_and(|old| *old != row);
-        self.damage
-            .push((format!("row {i} {}", row.words()), changes));
+        self.damage.push((format!("row {i} {}", row.words()), changes));
         if let Some(old) = self.rows.get_mut(i) {
             *old = row;
         }
@@ -222,34 +189,12 @@ fn near(random: &mut Random, row: Row, rows: &[Row]) -> Row {
     let held = rows[random.below(rows.len())].id;
     let step = random.pick(&[-1, 1, 1, 2]);
     let other = (random.below(5) as u64, random.below(12) as i32);
-    let id = random.pick(&[
-        None,
-        Some(held),
-        Some(held),
-        Some(other),
-        Some((UNKNOWN_PEER, 0)),
-        Some((1, -1)),
-        Some((1, 2_147_483_647)),
-    ]);
-    let status = (
-        random.one_in(2),
-        random.pick(&[0, 0, 1, -1, 32_767, -32_768]),
-    );
+    let id = random.pick(&[None, Some(held), Some(held), Some(other), Some((UNKNOWN_PEER, 0)), Some((1, -1)), Some((1, 2_147_483_647))]);
+    let status = (random.one_in(2), random.pick(&[0, 0, 1, -1, 32_767, -32_768]));
     match random.below(14) {
         0 => out.id.0 = random.pick(&[1, 2, 3, 9, 0, UNKNOWN_PEER]),
-        1 => {
-            out.id.1 = random.pick(&[
-                row.id.1.wrapping_add(step),
-                -1,
-                2_147_483_647,
-                2_147_483_646,
-                40,
-            ])
-        }
-        2 => {
-            out.lamport =
-                random.pick(&[row.lamport.wrapping_add(1), 4_294_967_295, 4_294_967_294, 0])
-        }
+        1 => out.id.1 = random.pick(&[row.id.1.wrapping_add(step), -1, 2_147_483_647, 2_147_483_646, 40]),
+        2 => out.lamport = random.pick(&[row.lamport.wrapping_add(1), 4_294_967_295, 4_294_967_294, 0]),
         3 => out.real = id,
         4 => out.real = row.real.map(|r| (r.0, r.1.wrapping_add(step))),
         5 | 6 => out.status = status,
@@ -295,11 +240,7 @@ fn lines(store: &Store) -> Vec<String> {
 }
 
 fn judge(store: &Store, said: &[Said], tally: &mut Tally) -> Result<(), (usize, String)> {
-    let head = |i: usize| {
-        said.get(i)
-            .map(|s| s[0].as_str())
-            .ok_or((i, "no answer".to_string()))
-    };
+    let head = |i: usize| said.get(i).map(|s| s[0].as_str()).ok_or((i, "no answer".to_string()));
     let start = store.build.len();
     let formed = well_formed(&store.rows);
     tally.stores += 1;
@@ -320,18 +261,10 @@ fn judge(store: &Store, said: &[Said], tally: &mut Tally) -> Result<(), (usize, 
             return Err((at, "`sum` was not answered".into()));
         }
         let word = line.split(' ').next().unwrap_or("");
-        let on_store = !["out", "placeholder", "rows", "ins", "checkout", "delta"].contains(&word)
-            && line != "insert 0 1 0 text";
+        let on_store = !["out", "placeholder", "rows", "ins", "checkout", "delta"].contains(&word) && line != "insert 0 1 0 text";
         if on_store && (answer == "no 15") == formed {
-            let is = if formed {
-                "well formed"
-            } else {
-                "not well formed"
-            };
-            return Err((
-                at,
-                format!("the store is {is} as 01 is read, and the answer is `{answer}`"),
-            ));
+            let is = if formed { "well formed" } else { "not well formed" };
+            return Err((at, format!("the store is {is} as 01 is read, and the answer is `{answer}`")));
         }
         if answer.starts_with("no ") || answer == "error" {
             if before != after {
@@ -347,16 +280,8 @@ fn judge(store: &Store, said: &[Said], tally: &mut Tally) -> Result<(), (usize, 
         }
     }
     let last = first + 2 * (store.calls.len() - 1);
-    if formed
-        && !said
-            .get(last)
-            .and_then(rows_of)
-            .is_some_and(|rows| well_formed(&rows))
-    {
-        return Err((
-            last,
-            "accepted calls left a store that is not well formed".into(),
-        ));
+    if formed && !said.get(last).and_then(rows_of).is_some_and(|rows| well_formed(&rows)) {
+        return Err((last, "accepted calls left a store that is not well formed".into()));
     }
     Ok(())
 }

@@ -1,4 +1,5 @@
 //! Short scripts, all of them. Every call is one that 01 accepts.
+use super::{Script, AMPLE};
 use model01::rope01::Rope01;
 use model01::*;
 
@@ -23,13 +24,7 @@ pub fn alphabet(word: &str) -> Option<Alphabet> {
 }
 
 /// Hands every script of the opening and at most `depth` further calls to `sink`, until it answers false.
-pub fn scripts(
-    alphabet: Alphabet,
-    opening: Call,
-    depth: usize,
-    peers: u64,
-    sink: &mut dyn FnMut(&[Call]) -> bool,
-) -> bool {
+pub fn scripts(alphabet: Alphabet, opening: Call, depth: usize, peers: u64, sink: &mut dyn FnMut(Script) -> bool) -> bool {
     let mut list = Rope01::default();
     list.call(&opening);
     longer(alphabet, &mut vec![opening], &list, depth, peers, sink)
@@ -41,9 +36,9 @@ fn longer(
     list: &Rope01,
     depth: usize,
     peers: u64,
-    sink: &mut dyn FnMut(&[Call]) -> bool,
+    sink: &mut dyn FnMut(Script) -> bool,
 ) -> bool {
-    if !sink(script) {
+    if !sink(Script { limits: AMPLE, calls: script.clone(), last_only: true }) {
         return false;
     }
     if depth == 0 {
@@ -51,9 +46,7 @@ fn longer(
     }
     for calls in letters(alphabet, list, peers) {
         let mut next = list.clone();
-        let accepted = calls
-            .iter()
-            .all(|c| !matches!(next.call(c), Answer::Refused(_)));
+        let accepted = calls.iter().all(|c| !matches!(next.call(c), Answer::Refused(_)));
         assert!(accepted, "a call outside 01's domain");
         let len = script.len();
         script.extend(calls);
@@ -88,21 +81,9 @@ fn letters(alphabet: Alphabet, list: &Rope01, peers: u64) -> Vec<Vec<Call>> {
             }
         }
         Alphabet::Calls | Alphabet::Deltas => {
-            out.extend(
-                (1..=2)
-                    .flat_map(|len| inserts(list, peers, len))
-                    .map(|c| vec![c]),
-            );
+            out.extend((1..=2).flat_map(|len| inserts(list, peers, len)).map(|c| vec![c]));
             let tctr = list.units.len() as i32 * 10;
-            out.extend((0..list.visible()).map(|pos| {
-                vec![Call::Delete {
-                    pos,
-                    len: 1,
-                    tpeer: 9,
-                    tctr,
-                    rev: false,
-                }]
-            }));
+            out.extend((0..list.visible()).map(|pos| vec![Call::Delete { pos, len: 1, tpeer: 9, tctr, rev: false }]));
             for unit in &list.units {
                 if alphabet == Alphabet::Calls {
                     out.push(vec![update(unit, Some(!unit.status.0), 0, false)]);
@@ -121,14 +102,7 @@ fn letters(alphabet: Alphabet, list: &Rope01, peers: u64) -> Vec<Vec<Call>> {
 
 fn update(unit: &Unit, future: Option<bool>, delta: i16, diff: bool) -> Call {
     let (peer, from) = unit.id;
-    Call::Update {
-        peer,
-        from,
-        to: from + 1,
-        future,
-        delta,
-        diff,
-    }
+    Call::Update { peer, from, to: from + 1, future, delta, diff }
 }
 
 /// Counters, lamports and text run on from a peer's insert to its next, so that spans join where they may.
@@ -138,13 +112,7 @@ fn inserts(list: &Rope01, peers: u64, len: u32) -> Vec<Call> {
         let ctr = list.units.iter().filter(|u| u.id.0 == peer).count() as u32;
         let text = 100 * peer as u32 + ctr;
         for pos in 0..=list.visible() {
-            out.push(Call::Insert {
-                pos,
-                peer,
-                ctr: ctr as i32,
-                lam: ctr,
-                chunk: (text, text + len),
-            });
+            out.push(Call::Insert { pos, peer, ctr: ctr as i32, lam: ctr, chunk: (text, text + len) });
         }
     }
     out

@@ -1,4 +1,6 @@
 //! Random scripts. Most calls are accepted; some stand just past a limit.
+use super::judge::Reading;
+use super::{Limits, Script, AMPLE};
 use crate::chance::Random;
 use model01::rope01::Rope01;
 use model01::*;
@@ -17,13 +19,11 @@ struct Temper {
     text: u32,
 }
 
-pub fn script(seed: u64, calls: usize) -> Vec<Call> {
+pub fn script(seed: u64, calls: usize) -> Script {
     let mut random = Random::new(seed);
     let all = [1, 2, 3, 4, 5, 0, 1 << 32, u64::MAX - 1];
     let reach = random.pick(&[3, 5, 8]);
-    let peers = (0..2 + random.below(4))
-        .map(|_| random.pick(&all[..reach]))
-        .collect();
+    let peers = (0..2 + random.below(4)).map(|_| random.pick(&all[..reach])).collect();
     let mut temper = Temper {
         peers,
         inserts: 3 + random.below(4),
@@ -33,21 +33,22 @@ pub fn script(seed: u64, calls: usize) -> Vec<Call> {
         typing: None,
         text: 0,
     };
-    let mut list = Rope01::default();
+    let limits = Limits {
+        room: if random.one_in(4) { 1 + random.below(9) } else { AMPLE.room },
+        out: if random.one_in(8) { random.below(4) } else { AMPLE.out },
+    };
+    let mut reading = Reading::new(limits);
     let mut out = Vec::new();
     for i in 0..calls {
         let call = match i {
             0 if random.one_in(3) => Call::Placeholder(1 + random.below(8) as u32),
             0 => Call::Empty,
-            _ => temper.call(&mut random, &list),
+            _ => temper.call(&mut random, &reading.list),
         };
-        let before = list.clone();
-        if let Answer::Refused(_) = list.call(&call) {
-            list = before;
-        }
+        reading.call(&call);
         out.push(call);
     }
-    out
+    Script { limits, calls: out, last_only: false }
 }
 
 impl Temper {
@@ -94,11 +95,7 @@ impl Temper {
         let chunk = self.chunk(random);
         let len = chunk_len(chunk).unwrap_or(1);
         let own = || list.units.iter().filter(|u| u.id.0 == peer);
-        let next = own()
-            .map(|u| u.id.1 as i64 + 1)
-            .max()
-            .unwrap_or(0)
-            .min(i32::MAX as i64);
+        let next = own().map(|u| u.id.1 as i64 + 1).max().unwrap_or(0).min(i32::MAX as i64);
         let lamport = own().map(|u| u.lamport as u64 + 1).max().unwrap_or(0);
         let most = i32::MAX as i64 - len as i64;
         let ctr = match random.below(150) {
@@ -117,16 +114,8 @@ impl Temper {
         };
         self.typing = Some((peer, pos + len as usize));
         Call::Insert {
-            pos: if random.one_in(100) {
-                visible + 1 + random.below(3)
-            } else {
-                pos
-            },
-            peer: if random.one_in(200) {
-                UNKNOWN_PEER
-            } else {
-                peer
-            },
+            pos: if random.one_in(100) { visible + 1 + random.below(3) } else { pos },
+            peer: if random.one_in(200) { UNKNOWN_PEER } else { peer },
             ctr: ctr.min(i32::MAX as i64) as i32,
             lam: lam.min(u32::MAX as u64) as u32,
             chunk,
@@ -147,17 +136,9 @@ impl Temper {
             _ => random.below(60) as i64,
         };
         Call::Delete {
-            pos: if random.one_in(60) {
-                visible + random.below(3)
-            } else {
-                random.below((visible + 1).saturating_sub(len))
-            },
+            pos: if random.one_in(60) { visible + random.below(3) } else { random.below((visible + 1).saturating_sub(len)) },
             len,
-            tpeer: if random.one_in(100) {
-                UNKNOWN_PEER
-            } else {
-                6 + random.below(3) as u64
-            },
+            tpeer: if random.one_in(100) { UNKNOWN_PEER } else { 6 + random.below(3) as u64 },
             tctr: start as i32,
             rev: random.one_in(3),
         }
