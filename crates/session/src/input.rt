@@ -1,0 +1,215 @@
+// What is read, cut into lines.
+use crate::answer;
+use crate::reply;
+use crate::state::Session;
+use text::parts::before;
+use text::parts::find;
+
+// The bytes from..to of the buffer are read and not answered. `cut` says that the line that they belong to began before them.
+pub struct Reader {
+    pub from: usize,
+    pub to: usize,
+    pub cut: bool,
+}
+
+// After a turn: whether there is more to do.
+pub struct Turn {
+    pub reader: Reader,
+    pub session: Session,
+    pub more: bool,
+}
+
+pub struct Filled {
+    pub reader: Reader,
+    pub more: bool,
+}
+
+impl Reader {
+    // Past a line of n bytes and its end.
+    fn past(self, n: usize) -> Self {
+        if self.from < self.to {
+            if n < self.to - self.from {
+                return Reader {
+                    from: self.from + n + 1,
+                    to: self.to,
+                    cut: false,
+                };
+            }
+        }
+        Reader {
+            from: 0,
+            to: 0,
+            cut: false,
+        }
+    }
+}
+
+fn unread(bytes: &[u8], r: Reader) -> &[u8] {
+    let from = r.from;
+    let to = r.to;
+    if to <= bytes.len() {
+        if from <= to {
+            return &bytes[from..to];
+        }
+    }
+    &bytes[..0]
+}
+
+// Answers the first line, where its end is there.
+fn next_line(
+    bytes: &[u8],
+    r: Reader,
+    s: Session,
+    store: &mut [u8],
+    out: &mut [u8],
+    text: &mut [u8],
+) -> Turn {
+    let held = unread(bytes, r);
+    let n = find(held, b'\n');
+    if n < held.len() {
+        let s = answer::line(before(held, b'\n'), r.cut, s, store, out, text);
+        Turn {
+            reader: r.past(n),
+            session: s,
+            more: true,
+        }
+    } else {
+        Turn {
+            reader: r,
+            session: s,
+            more: false,
+        }
+    }
+}
+
+// Answers the last line, which may have no end.
+fn last_line(
+    bytes: &[u8],
+    r: Reader,
+    s: Session,
+    store: &mut [u8],
+    out: &mut [u8],
+    text: &mut [u8],
+) -> Session {
+    answer::line(unread(bytes, r), r.cut, s, store, out, text)
+}
+
+// Moves the bytes from..to to the front, and answers how many they are.
+fn to_front(bytes: &mut [u8], from: usize, to: usize) -> usize {
+    if bytes.len() < to {
+        return 0;
+    }
+    let mut i = 0;
+    let mut k = from;
+    while k < to {
+        bytes[i] = bytes[k];
+        i += 1;
+        k += 1;
+    }
+    i
+}
+
+// Reads behind what is held; a line that fills the buffer is dropped, and answered `error` at its end.
+fn fill(fd: i32, r: Reader, bytes: &mut [u8]) -> Filled {
+    let held = to_front(bytes, r.from, r.to);
+    if held < bytes.len() {
+        read_behind(fd, held, r.cut, bytes)
+    } else {
+        read_behind(fd, 0, true, bytes)
+    }
+}
+
+fn read_behind(fd: i32, held: usize, cut: bool, bytes: &mut [u8]) -> Filled {
+    if bytes.len() < held {
+        return Filled {
+            reader: Reader {
+                from: 0,
+                to: 0,
+                cut: cut,
+            },
+            more: false,
+        };
+    }
+    let n = read_some(fd, &mut bytes[held..]);
+    Filled {
+        reader: Reader {
+            from: 0,
+            to: std::num::wrapping_add_usize(held, n),
+            cut: cut,
+        },
+        more: 0 < n,
+    }
+}
+
+fn read_some(fd: i32, bytes: &mut [u8]) -> usize {
+    let got = libc::read(fd, bytes);
+    io::count(got, bytes)
+}
+
+// Where no whole line is held: what was answered is written out, so that nobody waits for it, and more is read. At the end the last line is answered.
+fn refill(
+    fd: i32,
+    r: Reader,
+    s: Session,
+    store: &mut [u8],
+    out: &mut [u8],
+    bytes: &mut [u8],
+    text: &mut [u8],
+) -> Turn {
+    let s = s.said(reply::flush(text, s.at));
+    let f = fill(fd, r, bytes);
+    let reader = f.reader;
+    if f.more {
+        return Turn {
+            reader: reader,
+            session: s,
+            more: true,
+        };
+    }
+    let s = last_line(bytes, reader, s, store, out, text);
+    let at = reply::flush(text, s.at);
+    Turn {
+        reader: reader,
+        session: s.said(at),
+        more: false,
+    }
+}
+
+// Answers one line, or reads.
+fn step(
+    fd: i32,
+    r: Reader,
+    s: Session,
+    store: &mut [u8],
+    out: &mut [u8],
+    bytes: &mut [u8],
+    text: &mut [u8],
+) -> Turn {
+    let t = next_line(bytes, r, s, store, out, text);
+    if t.more {
+        return t;
+    }
+    let reader = t.reader;
+    let session = t.session;
+    refill(fd, reader, session, store, out, bytes, text)
+}
+
+// Answers line after line. Nothing says that a script ends, so the turns are counted down, from a number that no script uses up.
+pub fn lines(fd: i32, store: &mut [u8], out: &mut [u8], bytes: &mut [u8], text: &mut [u8]) {
+    let mut s = Session::new();
+    let mut r = Reader {
+        from: 0,
+        to: 0,
+        cut: false,
+    };
+    let mut turns = u64::MAX;
+    while 0 < turns {
+        turns -= 1;
+        let t = step(fd, r, s, store, out, bytes, text);
+        if !t.more {
+            return;
+        }
+        s = t.session;
+        r = t.reader;
+    }
+}

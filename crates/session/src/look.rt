@@ -1,0 +1,213 @@
+// What works on whatever is open: questions, the list printed, and rows written as they are said.
+use crate::reply;
+use rope::query::LenAnswer;
+use rope::query::RealAnswer;
+use script::call::Look;
+use script::print;
+use span::span::FugueSpan;
+use span::span::SpanAnswer;
+use store::header;
+use text::puts::put;
+use text::puts::put_hex;
+
+pub enum Row {
+    Is(FugueSpan),
+    Nothing,
+}
+
+// Row i of the list: the header stands before row 0.
+pub fn row_of(s: &[u8], i: usize) -> Row {
+    let n = s.len() / 72;
+    if n == 0 {
+        return Row::Nothing;
+    }
+    if i < n - 1 {
+        Row::Is(store::get_row(s, i + 1))
+    } else {
+        Row::Nothing
+    }
+}
+
+// The rows that the header says, where it is one.
+fn rows_of(s: &[u8]) -> usize {
+    if s.len() < 72 {
+        0
+    } else {
+        header::count(s) as usize
+    }
+}
+
+pub fn len(s: &[u8], text: &mut [u8], at: usize) -> usize {
+    match rope::query::visible_len(s) {
+        LenAnswer::Done(n) => reply::counted(text, at, b"len", n as u64),
+        LenAnswer::Refused(code) => reply::refused(text, at, code),
+    }
+}
+
+pub fn at_pos(s: &[u8], pos: u32, text: &mut [u8], at: usize) -> usize {
+    match rope::query::active_real_span_at(s, pos) {
+        RealAnswer::At(id, left) => {
+            let at = reply::make_room(text, at);
+            let at = put(text, at, b"at");
+            let at = print::id(text, at, id);
+            print::head(text, at, b"", left as u64)
+        }
+        RealAnswer::Nothing => {
+            let at = reply::make_room(text, at);
+            put(text, at, b"at nothing\n")
+        }
+        RealAnswer::Refused(code) => reply::refused(text, at, code),
+    }
+}
+
+// What is printed of a list.
+pub enum Kind {
+    Units,
+    Spans,
+    Items,
+}
+
+// One unit of a span: its line, or none where it is no item.
+fn unit(kind: Kind, x: FugueSpan, k: u32, next: u32, text: &mut [u8], at: usize) -> usize {
+    match x.slice(k, next) {
+        SpanAnswer::Done(u) => match kind {
+            Kind::Units => reply::unit(text, at, u),
+            Kind::Spans => at,
+            Kind::Items => reply::item(text, at, u),
+        },
+        SpanAnswer::Refused(_) => at,
+    }
+}
+
+fn units(kind: Kind, x: FugueSpan, n: u32, text: &mut [u8], start: usize) -> usize {
+    let mut at = start;
+    let mut k = 0;
+    while k < n {
+        let next = k + 1;
+        at = unit(kind, x, k, next, text, at);
+        k = next;
+    }
+    at
+}
+
+// How many lines a row gives.
+fn lines(kind: Kind, x: FugueSpan) -> u64 {
+    match kind {
+        Kind::Units => x.rle_len() as u64,
+        Kind::Spans => 1,
+        Kind::Items => x.activated_len() as u64,
+    }
+}
+
+fn lines_at(kind: Kind, s: &[u8], i: usize) -> u64 {
+    match row_of(s, i) {
+        Row::Is(x) => lines(kind, x),
+        Row::Nothing => 0,
+    }
+}
+
+fn all_lines(kind: Kind, s: &[u8], n: usize) -> u64 {
+    let mut sum: u64 = 0;
+    let mut i = 0;
+    while i < n {
+        sum = std::num::wrapping_add_u64(sum, lines_at(kind, s, i));
+        i += 1;
+    }
+    sum
+}
+
+fn row_lines(kind: Kind, x: FugueSpan, text: &mut [u8], at: usize) -> usize {
+    match kind {
+        Kind::Units => units(kind, x, x.rle_len(), text, at),
+        Kind::Spans => reply::span(text, at, b"span", x),
+        Kind::Items => units(kind, x, x.activated_len(), text, at),
+    }
+}
+
+fn row_at(kind: Kind, s: &[u8], i: usize, text: &mut [u8], at: usize) -> usize {
+    match row_of(s, i) {
+        Row::Is(x) => row_lines(kind, x, text, at),
+        Row::Nothing => at,
+    }
+}
+
+fn rows(kind: Kind, s: &[u8], n: usize, text: &mut [u8], start: usize) -> usize {
+    let mut at = start;
+    let mut i = 0;
+    while i < n {
+        at = row_at(kind, s, i, text, at);
+        i += 1;
+    }
+    at
+}
+
+fn head(kind: Kind, n: u64, text: &mut [u8], at: usize) -> usize {
+    match kind {
+        Kind::Units => reply::counted(text, at, b"units", n),
+        Kind::Spans => reply::counted(text, at, b"spans", n),
+        Kind::Items => reply::counted(text, at, b"list", n),
+    }
+}
+
+// The list, a line for each unit, span or visible unit.
+pub fn list(kind: Kind, s: &[u8], text: &mut [u8], at: usize) -> usize {
+    if !rope::state::check(s) {
+        return reply::refused(text, at, 15);
+    }
+    let n = rows_of(s);
+    let at = head(kind, all_lines(kind, s, n), text, at);
+    rows(kind, s, n, text, at)
+}
+
+// Writes a row as it is said.
+pub fn put_row(s: &mut [u8], i: u32, x: FugueSpan, text: &mut [u8], at: usize) -> usize {
+    let row = (i as usize) + 1;
+    if row < s.len() / 72 {
+        store::put_row(s, row, x);
+        reply::ok(text, at)
+    } else {
+        reply::error(text, at)
+    }
+}
+
+// Sets the number of rows as it is said.
+pub fn set_rows(s: &mut [u8], n: u32, text: &mut [u8], at: usize) -> usize {
+    if (n as usize) < s.len() / 72 {
+        header::set_count(s, n as u64);
+        reply::ok(text, at)
+    } else {
+        reply::error(text, at)
+    }
+}
+
+// A checksum that goes on from another: a polynomial in 257 over the greatest prime below 2^32.
+fn sum_from(s: &[u8], start: u64) -> u64 {
+    let mut sum = start % 4294967291;
+    let mut i = 0;
+    while i < s.len() {
+        sum = (sum * 257 + words::wide(s[i])) % 4294967291;
+        i += 1;
+    }
+    sum
+}
+
+// Over all that is lent.
+pub fn sum(s: &[u8], out: &[u8], text: &mut [u8], at: usize) -> usize {
+    let at = reply::make_room(text, at);
+    let at = put(text, at, b"sum ");
+    let at = put_hex(text, at, sum_from(out, sum_from(s, 1)));
+    put(text, at, b"\n")
+}
+
+pub fn look(l: Look, s: &mut [u8], out: &[u8], text: &mut [u8], at: usize) -> usize {
+    match l {
+        Look::At(pos) => at_pos(s, pos, text, at),
+        Look::Len => len(s, text, at),
+        Look::Dump => list(Kind::Units, s, text, at),
+        Look::Spans => list(Kind::Spans, s, text, at),
+        Look::Visible => list(Kind::Items, s, text, at),
+        Look::Row(i, x) => put_row(s, i, x, text, at),
+        Look::Rows(n) => set_rows(s, n, text, at),
+        Look::Sum => sum(s, out, text, at),
+    }
+}

@@ -1,0 +1,56 @@
+// What a session remembers between calls, beside the lent bytes.
+pub enum Open {
+    Nothing,
+    Rope,
+}
+
+pub struct Session {
+    // What is open, and the rows lent to it.
+    pub open: Open,
+    pub lent: u32,
+    // What the next opening lends, and the next call.
+    pub room: u32,
+    pub out: u32,
+    // How much of the answer buffer is written.
+    pub at: usize,
+}
+
+impl Session {
+    // Nothing is open, and everything is lent.
+    pub fn new() -> Self {
+        Session {
+            open: Open::Nothing,
+            lent: 0,
+            room: 4294967295,
+            out: 4294967295,
+            at: 0,
+        }
+    }
+
+    // More of the answer is written.
+    pub fn said(mut self, at: usize) -> Self {
+        self.at = at;
+        self
+    }
+
+    pub fn with_room(mut self, n: u32) -> Self {
+        self.room = n;
+        self
+    }
+
+    pub fn with_out(mut self, n: u32) -> Self {
+        self.out = n;
+        self
+    }
+
+    // A rope is open in the room that was said.
+    pub fn opened(self) -> Self {
+        Session {
+            open: Open::Rope,
+            lent: self.room,
+            room: self.room,
+            out: self.out,
+            at: self.at,
+        }
+    }
+}

@@ -1,0 +1,307 @@
+//! Pretends to be the lane program, with the reading of 01 in the place of the proved library, and with a fault if one is named.
+//! It shows that the tests bite: each fault must be found, and no fault must be found where there is none.
+use crate::answer;
+use crate::histories::judge::{Ask, Reading};
+use crate::row::{well_formed, Row};
+use model01::history::Body;
+use model01::rope01::*;
+use model01::*;
+use std::hash::{DefaultHasher, Hash, Hasher};
+use std::io::{Read, Write};
+
+/// The faults that `compare` must find.
+pub const FAULTS: &[&str] = &[
+    "cursor",  // an insert goes to the cursor, without a scan
+    "peers",   // the scan puts larger peers first
+    "visible", // origin right is the first visible unit
+    "real",    // a delete writes the real id anew
+    "pieces",  // a reversed delete lists its units in list order
+    "lamport", // a removed unit is listed with another lamport
+    "entries", // the last entry of a delta is left out
+    "left",    // a position is answered with one unit left too many
+    "full",    // an insert at the visible length is refused
+    "twice",   // an id that is held is taken again
+    "silent",  // nothing is answered from the first reversed delete on
+];
+/// The faults in histories that `compare` must find.
+pub const HISTORY: &[&str] = &[
+    "arrival",  // an insert goes right after its origin left, so that the list depends on the arrival
+    "checkout", // a checkout counts no deletes
+    "backward", // a delta goes from B to A
+    "stands",   // after a delta the list stands at B
+];
+/// The faults that `damaged` must find.
+pub const DAMAGE: &[&str] = &[
+    "dirty", // a refused call writes into spare room
+    "blind", // `len` does not ask 15
+    "loose", // 15 does not ask whether the list is joined
+    "deaf",  // a line that is no call is not answered
+    "ends",  // the program ends with 1
+];
+
+/// The most that is lent.
+const MOST: usize = 8192;
+
+struct Pretend {
+    fault: String,
+    open: bool,
+    rows: Vec<Row>,
+    spare: Vec<Row>,
+    /// Rows lent from the next opening on, rows lent, and entries of an output lent.
+    next: usize,
+    room: usize,
+    out: usize,
+    history: Option<Reading>,
+}
+
+pub fn run(fault: &str) {
+    let known = ["none"].iter().chain(FAULTS).chain(HISTORY).chain(DAMAGE).any(|f| *f == fault);
+    assert!(known, "no such fault");
+    let mut bytes = Vec::new();
+    std::io::stdin().read_to_end(&mut bytes).expect("the script is read");
+    let mut it =
+        Pretend { fault: fault.into(), open: false, rows: vec![], spare: vec![], next: MOST, room: MOST, out: MOST, history: None };
+    let mut out = std::io::BufWriter::new(std::io::stdout().lock());
+    for line in bytes.split(|b| *b == b'\n') {
+        let text = String::from_utf8_lossy(line);
+        let text = text.split('#').next().unwrap_or("").trim_matches(' ');
+        if text.is_empty() {
+            continue;
+        }
+        if fault == "silent" && text.starts_with("delete") && text.ends_with(" 1") {
+            break;
+        }
+        let answer = it.line(text, line.len());
+        out.write_all(answer.as_bytes()).expect("the answer is written");
+    }
+    out.flush().expect("the answers are written");
+    std::process::exit(i32::from(fault == "ends"));
+}
+
+fn row_of((u, _): &(Unit, usize)) -> Row {
+    Row { id: u.id, lamport: u.lamport, real: u.real, status: u.status, diff: u.diff, left: u.ol, right: u.or, chunk: u.chunk }
+}
+
+fn units_of_row(r: &Row) -> Vec<Unit> {
+    let first =
+        Unit { id: r.id, lamport: r.lamport, real: r.real, status: r.status, diff: r.diff, ol: r.left, or: r.right, chunk: r.chunk };
+    units_of(&first, r.len().unwrap_or(0) as usize)
+}
+
+impl Pretend {
+    fn has(&self, fault: &str) -> bool {
+        self.fault == fault
+    }
+
+    fn line(&mut self, text: &str, bytes: usize) -> String {
+        let words: Vec<&str> = text.split(' ').collect();
+        let error = || "error\n".to_string();
+        if bytes > 4096 || words.iter().any(|w| w.is_empty() || w.contains('\t')) {
+            return error();
+        }
+        match words[..] {
+            [what @ ("room" | "targets" | "out"), n] if n.parse::<u32>().is_ok() => {
+                let n = n.parse::<usize>().unwrap_or(0).min(MOST);
+                match what {
+                    "room" => self.next = n,
+                    "out" => self.out = n,
+                    _ => {}
+                }
+                "ok\n".into()
+            }
+            ["new", n] if n.parse::<u32>().is_ok() => {
+                let mut reading = Reading::default();
+                reading.ask(&Ask::New(n.parse().unwrap_or(0)));
+                self.history = Some(reading);
+                "ok\n".into()
+            }
+            _ if self.history.is_some() && !["empty", "placeholder"].contains(&words[0]) => {
+                Ask::read(text).map_or_else(error, |ask| self.ask(&ask))
+            }
+            _ if !self.open && !["empty", "placeholder"].contains(&words[0]) => error(),
+            ["row", i, ref rest @ ..] => match (i.parse::<usize>(), Row::read(rest)) {
+                (Ok(i), Some(row)) if i < 8192 => {
+                    let blank = Row::read(&["0.0", "0", "-", "now:0", "-", "-", "-", "0", "0"]).expect("a row");
+                    let n = self.rows.len();
+                    if i >= n + self.spare.len() {
+                        self.spare.resize(i - n + 1, blank);
+                    }
+                    *self.rows.iter_mut().chain(&mut self.spare).nth(i).expect("a row") = row;
+                    "ok\n".into()
+                }
+                _ => error(),
+            },
+            ["rows", n] => match n.parse::<usize>() {
+                Ok(n) if n <= 8192 => {
+                    let blank = Row::read(&["0.0", "0", "-", "now:0", "-", "-", "-", "0", "0"]).expect("a row");
+                    let mut all: Vec<Row> = self.rows.drain(..).chain(self.spare.drain(..)).collect();
+                    if n > all.len() {
+                        all.resize(n, blank);
+                    }
+                    self.spare = all.split_off(n);
+                    self.rows = all;
+                    "ok\n".into()
+                }
+                _ => error(),
+            },
+            ["sum"] => {
+                let mut hash = DefaultHasher::new();
+                self.rows.len().hash(&mut hash);
+                self.rows.iter().chain(&self.spare).for_each(|r| r.words().hash(&mut hash));
+                format!("sum {:016x}\n", hash.finish())
+            }
+            _ => {
+                let call = if text == "visible" { Ok(Call::Len) } else { answer::call(text) };
+                match call {
+                    Ok(call) => self.call(&call, text == "visible"),
+                    Err(_) if self.has("deaf") => String::new(),
+                    Err(_) => error(),
+                }
+            }
+        }
+    }
+
+    fn call(&mut self, call: &Call, listed: bool) -> String {
+        let opening = matches!(call, Call::Empty | Call::Placeholder(_));
+        let formed = well_formed(&self.rows) || (self.has("loose") && well_formed(&joined_rows(&self.rows)));
+        if !opening && !formed && !(self.has("blind") && *call == Call::Len) {
+            if self.has("dirty") {
+                self.spare.extend(self.rows.first().copied());
+            }
+            return "no 15\n".into();
+        }
+        let rows = if formed { &self.rows[..] } else { &[] };
+        let before = Rope01 { units: rows.iter().flat_map(units_of_row).collect() };
+        let mut list = before.clone();
+        let mut answer = self.answer(&mut list, call);
+        if let Answer::Refused(n) = answer {
+            return format!("no {n}\n");
+        }
+        let room = if opening { self.next } else { self.room };
+        if list.units != before.units && list.spans().len() > room {
+            return "no 10\n".into();
+        }
+        let rows = list.spans().iter().map(row_of).collect();
+        match (call, &mut answer) {
+            (Call::Delete { pos, len, rev, .. }, Answer::Pieces(v)) => {
+                *v = before.pieces(*pos, *len, *rev);
+                if self.has("pieces") && *rev {
+                    v.reverse();
+                }
+                if self.has("lamport") {
+                    v.iter_mut().for_each(|p| p.0.lamport += 1);
+                }
+            }
+            (Call::Diff, Answer::Entries(v)) => {
+                *v = list.entries();
+                if self.has("entries") {
+                    v.pop();
+                }
+            }
+            (Call::At(pos), _) => answer = Answer::At(list.at(*pos).map(|(id, n)| (id, n + usize::from(self.has("left"))))),
+            (Call::Spans, _) => answer = Answer::Spans(list.spans()),
+            _ => {}
+        }
+        let put_out = match &answer {
+            Answer::Pieces(v) => v.len(),
+            Answer::Entries(v) => v.len(),
+            _ => 0,
+        };
+        if put_out > self.out {
+            return "no 13\n".into();
+        }
+        if opening {
+            (self.open, self.room, self.history) = (true, room, None);
+        }
+        self.rows = rows;
+        if listed {
+            let seen: Vec<&Unit> = list.units.iter().filter(|u| u.visible()).collect();
+            let item = |u: &&Unit| format!("item {} {}\n", show_id(u.real.unwrap_or(u.id)), show_chunk(u.chunk));
+            return format!("list {}\n", seen.len()) + &seen.iter().map(item).collect::<String>();
+        }
+        show_answer(&answer)
+    }
+
+    fn answer(&self, list: &mut Rope01, call: &Call) -> Answer {
+        let before = list.clone();
+        let mut answer = list.call(call);
+        match *call {
+            Call::Insert { pos, peer, ctr, .. } if answer == Answer::Ok => {
+                if self.has("full") && pos == before.visible() && pos > 1 {
+                    return Answer::Refused(8);
+                }
+                let (at, _, _) = before.place(pos, peer);
+                let len = list.units.len() - before.units.len();
+                let other = match self.fault.as_str() {
+                    "cursor" if pos == 0 => 0,
+                    "cursor" => 1 + visible_at(&before, pos - 1),
+                    "peers" => before.place(pos, u64::MAX - 1 - peer).0,
+                    _ => at,
+                };
+                let new: Vec<Unit> = list.units.drain(at..at + len).collect();
+                list.units.splice(other..other, new);
+                if self.has("visible") {
+                    let or = (pos < before.visible()).then(|| before.units[visible_at(&before, pos)].id);
+                    list.units.iter_mut().filter(|u| u.id.0 == peer && u.id.1 >= ctr && u.id.1 < ctr + len as i32).for_each(|u| u.or = or);
+                }
+            }
+            Call::Insert { pos, peer, ctr, lam, chunk } if answer == Answer::Refused(3) && self.has("twice") => {
+                answer = list.call(&Call::Insert { pos, peer, ctr: ctr + 100, lam, chunk });
+            }
+            Call::Delete { tpeer, tctr, .. } if self.has("real") => {
+                for (u, old) in list.units.iter_mut().zip(&before.units) {
+                    if u.status != old.status {
+                        u.real = Some((tpeer, tctr));
+                    }
+                }
+            }
+            _ => {}
+        }
+        answer
+    }
+}
+
+impl Pretend {
+    fn ask(&mut self, ask: &Ask) -> String {
+        let fault = self.fault.as_str();
+        let reading = self.history.as_mut().expect("a history is open");
+        let reply = match ask {
+            Ask::Delta(a, b) if fault == "backward" => reading.ask(&Ask::Delta(b.clone(), a.clone())),
+            _ => reading.ask(ask),
+        };
+        let units = &mut reading.history.rope.units;
+        match ask {
+            _ if reply.refused() => return reply.show().replace("refused", "no"),
+            Ask::Checkout(_) if fault == "checkout" => units.iter_mut().for_each(|u| u.status.1 = 0),
+            Ask::Delta(a, _) if fault == "backward" => {
+                reading.ask(&Ask::Checkout(a.clone()));
+            }
+            Ask::Delta(_, b) if fault == "stands" => {
+                reading.ask(&Ask::Checkout(b.clone()));
+            }
+            Ask::Edit(e) if fault == "arrival" && matches!(e.body, Body::Insert { .. }) => {
+                let new = |u: &Unit| u.id.0 == e.peer && u.id.1 >= e.ctr;
+                let moved: Vec<Unit> = units.iter().filter(|u| new(u)).cloned().collect();
+                units.retain(|u| !new(u));
+                let to = moved[0].ol.and_then(|l| units.iter().position(|u| u.id == l)).map_or(0, |i| i + 1);
+                units.splice(to..to, moved);
+            }
+            _ => {}
+        }
+        reply.show()
+    }
+}
+
+/// The index of the visible unit at a position.
+fn visible_at(list: &Rope01, pos: usize) -> usize {
+    list.units.iter().enumerate().filter(|(_, u)| u.visible()).nth(pos).map_or(0, |(i, _)| i)
+}
+
+/// The rows joined, where they can be taken apart.
+fn joined_rows(rows: &[Row]) -> Vec<Row> {
+    if rows.iter().any(|r| !well_formed(&[Row { left: None, right: None, ..*r }])) {
+        return rows.to_vec();
+    }
+    let list = Rope01 { units: rows.iter().flat_map(units_of_row).collect() };
+    list.spans().iter().map(row_of).collect()
+}

@@ -1,0 +1,132 @@
+//! Compares what the lane program said on a rope script with the Rust over its stand-ins, and with the reading of document 01.
+//!
+//! The reading says which calls are accepted. Those go to the Rust, through each variant of the stand-in: units, removed units, deltas with like neighbours
+//! joined, positions and lengths must be the same. Where the Rust panics or the stand-in has no contract, the call is outside the domain and that variant is
+//! left for the rest of the script. What the Rust cannot judge is judged by the reading: the number of a refusal, and where spans, pieces, entries and units
+//! left are cut.
+use super::{Limits, AMPLE};
+use crate::answer;
+use crate::batch::{Difference, Named, Tally};
+use crate::lane::Said;
+use generic_btree::set_variant;
+use model01::rope01::Rope01;
+use model01::*;
+use rope::RopeDriver;
+
+/// `model01`'s rope with 01's cuts and with the refusals that come from what is lent.
+pub struct Reading {
+    pub list: Rope01,
+    limits: Limits,
+}
+
+impl Reading {
+    pub fn new(limits: Limits) -> Reading {
+        Reading { list: Rope01::default(), limits }
+    }
+
+    pub fn call(&mut self, call: &Call) -> Answer {
+        let before = self.list.clone();
+        let plain = self.list.call(call);
+        let answer = match (call, plain) {
+            (_, Answer::Refused(n)) => Answer::Refused(n),
+            _ if changes(call) && self.list.spans().len() > self.limits.room => Answer::Refused(10),
+            (Call::Delete { pos, len, rev, .. }, _) => Answer::Pieces(before.pieces(*pos, *len, *rev)),
+            (Call::Diff, _) => Answer::Entries(self.list.entries()),
+            (Call::At(pos), _) => Answer::At(self.list.at(*pos)),
+            (Call::Spans, _) => Answer::Spans(self.list.spans()),
+            (_, answer) => answer,
+        };
+        let put_out = match &answer {
+            Answer::Pieces(v) => v.len(),
+            Answer::Entries(v) => v.len(),
+            _ => 0,
+        };
+        let answer = if put_out > self.limits.out { Answer::Refused(13) } else { answer };
+        if let Answer::Refused(_) = answer {
+            self.list = before;
+        }
+        answer
+    }
+}
+
+/// Whether a call is more than a question.
+pub fn changes(call: &Call) -> bool {
+    !matches!(call, Call::Dump | Call::Spans | Call::Len | Call::Diff | Call::At(_))
+}
+
+/// The whole list, its cuts and length, the delta, and some positions or all.
+pub fn questions(list: &Rope01, every_position: bool) -> Vec<Call> {
+    let visible = list.visible();
+    let mut out = vec![Call::Dump, Call::Spans, Call::Len, Call::Diff];
+    if every_position {
+        out.extend((0..=visible).map(Call::At));
+    } else {
+        out.extend([0, visible / 2, visible].map(Call::At));
+    }
+    out
+}
+
+/// The answer without its cuts.
+pub fn uncut(answer: &Answer) -> Answer {
+    let units = |v: &[(Unit, usize)]| v.iter().flat_map(|(s, n)| units_of(s, *n)).collect();
+    match answer {
+        Answer::Pieces(v) | Answer::Spans(v) => Answer::Units(units(v)),
+        Answer::Entries(v) => Answer::Entries(join_entries(v)),
+        Answer::At(Some((id, _))) => Answer::At(Some((*id, 0))),
+        other => other.clone(),
+    }
+}
+
+pub fn judge(limits: Limits, asked: &[Call], said: &[Said], variants: &[Named], tally: &mut Tally) -> Result<(), Difference> {
+    let mut first: Option<Difference> = None;
+    let differ =
+        |line: usize, from: &str, lane: String, want: &Answer| Some(Difference { line, from: from.into(), lane, want: show_answer(want) });
+    // what the reading says, and what the program said as far as it can be read
+    let mut reading = Reading::new(limits);
+    let mut answers = Vec::new();
+    for (line, call) in asked.iter().enumerate() {
+        let want = reading.call(call);
+        match said.get(line).map_or(Err("nothing".into()), |s| answer::read(s)) {
+            Ok(got) => answers.push((want, got)),
+            Err(text) => {
+                first = differ(line, "the reading of 01", text, &want);
+                break;
+            }
+        }
+    }
+    // the Rust before the reading: where both differ it is the better witness
+    for (name, variant) in variants {
+        set_variant(*variant);
+        let mut rust = RopeDriver::new();
+        for (line, (reading, got)) in answers.iter().enumerate() {
+            if first.as_ref().is_some_and(|d| d.line <= line) {
+                break;
+            }
+            if let Answer::Refused(_) = reading {
+                continue;
+            }
+            let want = rust.call(&asked[line]);
+            if let Answer::Panic(_) = want {
+                *tally.outside.entry(name).or_default() += 1;
+                break;
+            }
+            tally.rust += 1;
+            if uncut(&want) != uncut(got) {
+                first = differ(line, &format!("the Rust over stand-in `{name}`"), show_answer(got), &want);
+            }
+        }
+    }
+    for (line, (want, got)) in answers.iter().enumerate() {
+        if first.as_ref().is_some_and(|d| d.line <= line) {
+            break;
+        }
+        tally.reading += 1;
+        tally.refused += u64::from(matches!(want, Answer::Refused(_)));
+        // the list that an update refused with 11 would make is not built here: in a small room it may be 10
+        let either = *want == Answer::Refused(11) && *got == Answer::Refused(10) && limits.room < AMPLE.room;
+        if want != got && !either {
+            first = differ(line, "the reading of 01", show_answer(got), want);
+        }
+    }
+    first.map_or(Ok(()), Err)
+}

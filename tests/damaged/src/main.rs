@@ -1,0 +1,27 @@
+//! What the lane program does with stores that no call makes and with scripts that nobody would write.
+//!
+//!     damaged rows [STORES [SEED]]       damaged stores (`rows.rs`)
+//!     damaged bytes [SCRIPTS [SEED]]     random bytes (`bytes.rs`)
+//!
+//! `LANE` is the program to judge. It stops at the first fault.
+mod bytes;
+mod calls;
+mod chance;
+mod lane;
+mod row;
+mod rows;
+
+fn main() {
+    let args: Vec<String> = std::env::args().skip(1).collect();
+    let words: Vec<&str> = args.iter().map(String::as_str).collect();
+    let number = |i: usize, default: u64| words.get(i).map_or(default, |w| w.parse().expect("a number"));
+    let good = match words[..] {
+        ["rows", ..] => rows::run(number(1, 5000), number(2, 1)),
+        ["bytes", ..] => bytes::run(number(1, 200), number(2, 1)),
+        _ => {
+            eprintln!("usage: damaged rows [STORES [SEED]] | bytes [SCRIPTS [SEED]]");
+            std::process::exit(2);
+        }
+    };
+    std::process::exit(i32::from(!good));
+}
