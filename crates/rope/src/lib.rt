@@ -11,6 +11,7 @@ pub mod find;
 pub mod insert;
 pub mod place;
 pub mod query;
+pub mod report;
 pub mod seek;
 pub mod state;
 pub mod stream;
