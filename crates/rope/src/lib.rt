@@ -12,6 +12,7 @@ pub mod insert;
 pub mod order;
 pub mod place;
 pub mod query;
+pub mod report;
 pub mod seek;
 pub mod state;
 pub mod stream;
