@@ -13,3 +13,4 @@ pub mod Sorts
 pub mod Alike
 pub mod NewKeys
 pub mod Splices
+pub mod Clocks

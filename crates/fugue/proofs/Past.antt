@@ -6,13 +6,14 @@ use mathlib.Core.Bool.{Bool, true, false, not, _&&_, cond, true≢false}
 use mathlib.Core.List.{List, [], _∷_, List·Memᴰ·head, List·Memᴰ·tail}
 use lib.IntN.{pos}
 use native.Mathlib.Omega.{arith}
-use Rattle.span.specs.declared.ids.Id.{Id}
 use Rattle.span.specs.declared.ids.OptId.{OptId}
 use Rattle.span.specs.declared.ids.OptId.the-variants.{Nothing, At}
 use Rattle.span.specs.declared.span.FugueSpan.{FugueSpan}
 use Rattle.span.specs.Status.{activated, eqZ}
 use Rattle.rope.specs.Place.{front, behind, lastId, firstPast, originLeft, originRight, shown}
-use Rattle.fugue.specs.Tree.{ref, keepIf}
+use Rattle.rope.specs.Lists.{keepIf}
+use Rattle.rope.specs.Change.{firstShown, taken}
+use Rattle.fugue.specs.Tree.{ref}
 use Rattle.fugue.proofs.ScanPlace.{Mem}
 
 abbrev pub notFuture : FugueSpan → Bool
@@ -27,12 +28,6 @@ unfoldable pub nth : List FugueSpan → ℕ → OptId
 nth [] n = Nothing
 nth (v ∷ l) zero = cond (activated (v .status)) (ref v) (nth l zero)
 nth (v ∷ l) (suc n) = nth l (cond (activated (v .status)) n (suc n))
-
--- the first n visible units
-unfoldable pub visibles : List FugueSpan → ℕ → List Id
-visibles [] n = []
-visibles (v ∷ l) zero = []
-visibles (v ∷ l) (suc n) = cond (activated (v .status)) (v .id ∷ visibles l n) (visibles l (suc n))
 
 pub front-zero : (l : List FugueSpan) → front l zero ≡ []
 unfolding front
@@ -130,27 +125,28 @@ pub originRight-past : (l : List FugueSpan) (n : ℕ) → originRight n l ≡ or
 unfolding originRight
 originRight-past l n = firstPast-past (behind l n) ∙ ap firstPast (behind-past l n)
 
-pub visibles-past : (l : List FugueSpan) (n : ℕ) → visibles l n ≡ visibles (pastOf l) n
-unfolding visibles keepIf
-visibles-past [] n = refl
-visibles-past (v ∷ l) zero = go (not (v .status .future))
+pub firstShown-past : (l : List FugueSpan) (n : ℕ) → firstShown l n ≡ firstShown (pastOf l) n
+unfolding firstShown keepIf
+firstShown-past [] n = refl
+firstShown-past (v ∷ l) zero = go (not (v .status .future))
   where
-    z : (l : List FugueSpan) → [] ≡ visibles l zero
+    z : (l : List FugueSpan) → [] ≡ firstShown l zero
     z [] = refl
     z (u ∷ l) = refl
-    go : (b : Bool) → [] ≡ visibles (cond b (v ∷ pastOf l) (pastOf l)) zero
+    go : (b : Bool) → [] ≡ firstShown (cond b (v ∷ pastOf l) (pastOf l)) zero
     go true = refl
     go false = z (pastOf l)
-visibles-past (v ∷ l) (suc n) = go (v .status .future) refl (visibles-past l)
+firstShown-past (v ∷ l) (suc n) = go (v .status .future) refl (firstShown-past l)
   where
-    go : (b : Bool) → v .status .future ≡ b → ((n : ℕ) → visibles l n ≡ visibles (pastOf l) n)
-      → cond (activated (v .status)) (v .id ∷ visibles l n) (visibles l (suc n)) ≡ visibles (cond (not b) (v ∷ pastOf l) (pastOf l)) (suc n)
-    go true e ih = ap (λ (b : Bool). cond b (v .id ∷ visibles l n) (visibles l (suc n))) (hidden v e) ∙ ih (suc n)
-    go false e ih = ap₂ (λ (a b : List Id). cond (activated (v .status)) (v .id ∷ a) b) (ih n) (ih (suc n))
+    go : (b : Bool) → v .status .future ≡ b → ((n : ℕ) → firstShown l n ≡ firstShown (pastOf l) n)
+      → cond (activated (v .status)) (v ∷ firstShown l n) (firstShown l (suc n)) ≡ firstShown (cond (not b) (v ∷ pastOf l) (pastOf l)) (suc n)
+    go true e ih = ap (λ (b : Bool). cond b (v ∷ firstShown l n) (firstShown l (suc n))) (hidden v e) ∙ ih (suc n)
+    go false e ih = ap₂ (λ (a b : List FugueSpan). cond (activated (v .status)) (v ∷ a) b) (ih n) (ih (suc n))
 
 -- L6.4: the targets of a delete
-pub targets-past : (l : List FugueSpan) (n k : ℕ) → visibles (behind l n) k ≡ visibles (behind (pastOf l) n) k
-targets-past l n k = visibles-past (behind l n) k ∙ ap (λ (z : List FugueSpan). visibles z k) (behind-past l n)
+pub taken-past : (l : List FugueSpan) (n k : ℕ) → taken n k l ≡ taken n k (pastOf l)
+unfolding taken
+taken-past l n k = firstShown-past (behind l n) k ∙ ap (λ (z : List FugueSpan). firstShown z k) (behind-past l n)
 
 -- the visible unit before the position is a unit of the list that is not future
 nth-in : (l : List FugueSpan) (n : ℕ) → suc n ≤ shown l → (w : FugueSpan) × Mem w l × (ref w ≡ nth l n) × (w .status .future ≡ false)

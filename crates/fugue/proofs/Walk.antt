@@ -13,8 +13,9 @@ use Rattle.span.specs.declared.ids.OptId.the-variants.{Nothing, At}
 use Rattle.span.specs.declared.span.FugueSpan.{FugueSpan}
 use Rattle.span.specs.Ids.{sameOpt}
 use Rattle.span.proofs.Same.{sameOpt-true, sameOpt-refl}
+use Rattle.rope.specs.Lists.{keepIf}
 use Rattle.rope.specs.Place.{hasOl, parentRight}
-use Rattle.fugue.specs.Tree.{ref, ol, or, prOf, isNone, leftKid, rightKid, keepIf, walkEach, walkList, walk}
+use Rattle.fugue.specs.Tree.{ref, ol, or, prOf, isNone, leftKid, rightKid, walkEach, walkList, walk}
 use Rattle.fugue.proofs.Order.{LtId}
 use Rattle.fugue.proofs.Keys.{Key, Step, sl, sr, IsL, IsR, LtS, Lt, Lt-irrefl, Lt-trans, Lt-asym, Lt-left, Lt-right, Lt-prefix}
 use Rattle.fugue.proofs.Hang.{Hung, hungR, hungL, last-of, lastOf, none≢at}

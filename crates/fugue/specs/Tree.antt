@@ -12,6 +12,7 @@ use Rattle.span.specs.declared.ids.OptId.{OptId}
 use Rattle.span.specs.declared.ids.OptId.the-variants.{Nothing, At}
 use Rattle.span.specs.declared.span.FugueSpan.{FugueSpan}
 use Rattle.span.specs.Ids.{sameOpt}
+use Rattle.rope.specs.Lists.{keepIf}
 use Rattle.rope.specs.Place.{parentRight}
 
 -- a unit as others name it: its id, its origins
@@ -38,10 +39,6 @@ leftKid us r u = not (isNone (prOf us u)) && sameOpt (prOf us u) r
 
 unfoldable pub rightKid : List FugueSpan → OptId → FugueSpan → Bool
 rightKid us r u = isNone (prOf us u) && sameOpt (ol u) r
-
-unfoldable pub keepIf : (FugueSpan → Bool) → List FugueSpan → List FugueSpan
-keepIf t [] = []
-keepIf t (u ∷ l) = cond (t u) (u ∷ keepIf t l) (keepIf t l)
 
 -- us holds the units sorted by peer, then counter, and so is each list of siblings below. Each sibling: its left children, itself, its right
 -- children, where w walks the children.

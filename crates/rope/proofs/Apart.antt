@@ -12,9 +12,10 @@ use Rattle.span.specs.declared.ids.OptId.{OptId}
 use Rattle.span.specs.declared.ids.OptId.the-variants.{Nothing, At}
 use Rattle.span.specs.declared.span.FugueSpan.{FugueSpan}
 use Rattle.span.specs.Ids.{incId, roomOf}
-use Rattle.span.proofs.IdsLaws.{Room, roomy}
+use Rattle.span.proofs.IdsLaws.{Room, roomy, inc-zero}
 use Rattle.span.specs.Span.{lenSpan, spanCode}
 use Rattle.span.proofs.SpanLaws.{SpanOk, span-ok}
+use Rattle.span.proofs.Views.{len-pos}
 use Rattle.span.specs.Units.{unitsOf, expand}
 use Rattle.store.specs.Row.{rows, rowAt}
 use Rattle.rope.specs.declared.find.Offset.{Offset}
@@ -22,10 +23,10 @@ use Rattle.rope.specs.declared.find.Offset.the-variants as Off
 use Rattle.rope.specs.Place.{memId}
 use Rattle.rope.specs.Spans.{offsetOf, isAt, covered, AllOk, Fresh, meetsSpan, holdsAny}
 use Rattle.rope.proofs.Offsets.{off-unit, unit-off, covers-units}
-use Rattle.rope.proofs.Lists.{or-both, mem-append}
+use Rattle.rope.proofs.Lists.{or-left, or-right, or-both, mem-append}
 use Rattle.rope.proofs.Rights.{row-drop, row-none}
 
-covered-unit : (s : FugueSpan) → spanCode s ≡ 0 → (k : ℕ) → k < lenSpan s → covered s (At (incId (s .id) k)) ≡ true
+pub covered-unit : (s : FugueSpan) → spanCode s ≡ 0 → (k : ℕ) → k < lenSpan s → covered s (At (incId (s .id) k)) ≡ true
 unfolding covered
 covered-unit s ok k h = ap isAt (off-unit s ok k h)
 
@@ -106,3 +107,57 @@ module _ (n : ℕ) (s : List ℕ) (x : FugueSpan) (i : ℕ) where
   pub holds-done : n ≤ i → holdsAny (drop i (rows n s)) x ≡ false
   unfolding holdsAny
   holds-done h = ap (λ (l : List FugueSpan). holdsAny l x) (row-none n s i h)
+
+-- ---- the converse: a span that meets a row has an id of it
+
+-- an id of x is one of the units'
+pub record Shared (x : FugueSpan) (us : List FugueSpan) : Type 0 where
+  pub k : ℕ
+  pub low : k < lenSpan x
+  pub has : memId (At (incId (x .id) k)) us ≡ true
+
+meets-one : (a b : FugueSpan) → spanCode a ≡ 0 → spanCode b ≡ 0 → meetsSpan a b ≡ true → Shared b (unitsOf a)
+unfolding meetsSpan covered
+meets-one a b oka okb e = go (offsetOf a (At (b .id))) refl e
+  where
+    other : (f : Offset) → offsetOf b (At (a .id)) ≡ f → isAt (offsetOf b (At (a .id))) ≡ true → Shared b (unitsOf a)
+    other Off.Nothing p q = absurd (true≢false (sym q ∙ ap isAt p))
+    other (Off.At k) p q =
+        let w = unit-off b okb (At (a .id)) k p in
+        record {
+          k = k;
+          low = w .0;
+          has = ap (λ (o : OptId). memId o (unitsOf a)) (sym (w .1)) ∙ (covers-units a oka (At (a .id)) ∙ (ap (λ (i : Id). covered a (At i)) (sym (inc-zero (a .id))) ∙ covered-unit a oka 0 (len-pos (a .content) (span-ok a oka .form))));
+        }
+
+    go : (f : Offset) → offsetOf a (At (b .id)) ≡ f → cond (isAt (offsetOf a (At (b .id)))) true (isAt (offsetOf b (At (a .id)))) ≡ true → Shared b (unitsOf a)
+    go (Off.At k) p q =
+        record {
+          k = 0;
+          low = len-pos (b .content) (span-ok b okb .form);
+          has = ap (λ (i : Id). memId (At i) (unitsOf a)) (inc-zero (b .id)) ∙ (covers-units a oka (At (b .id)) ∙ ap isAt p);
+        }
+    go Off.Nothing p q = other (offsetOf b (At (a .id))) refl (rw p at q)
+
+-- a row meets x: one of the ids of x is in the list
+pub shared-of : (l : List FugueSpan) (x : FugueSpan) → AllOk l → spanCode x ≡ 0 → holdsAny l x ≡ true → Shared x (expand l)
+unfolding holdsAny AllOk expand
+shared-of [] x ok f e = absurd (false≢true e)
+shared-of (s ∷ l) x ok f e = go (λ q. shared-of l x (ok .1) f q) (meetsSpan s x) refl e
+  where
+    go : (holdsAny l x ≡ true → Shared x (expand l)) → (t : Bool) → meetsSpan s x ≡ t → cond t true (holdsAny l x) ≡ true → Shared x (unitsOf s ++ expand l)
+    go rec true p q =
+        let w = meets-one s x (ok .0) f p in
+        record { k = w .k; low = w .low; has = mem-append (At (incId (x .id) (w .k))) (unitsOf s) (expand l) ∙ or-left (memId (At (incId (x .id) (w .k))) (unitsOf s)) (memId (At (incId (x .id) (w .k))) (expand l)) (w .has) }
+    go rec false p q =
+        let w = rec q in
+        record { k = w .k; low = w .low; has = mem-append (At (incId (x .id) (w .k))) (unitsOf s) (expand l) ∙ or-right (memId (At (incId (x .id) (w .k))) (unitsOf s)) (memId (At (incId (x .id) (w .k))) (expand l)) (w .has) }
+
+-- new ids: no row meets x
+pub fresh-holds : (l : List FugueSpan) (x : FugueSpan) → AllOk l → spanCode x ≡ 0 → Fresh x (expand l) → holdsAny l x ≡ false
+unfolding Fresh
+fresh-holds l x ok f new = go (holdsAny l x) refl
+  where
+    go : (t : Bool) → holdsAny l x ≡ t → holdsAny l x ≡ false
+    go false p = p
+    go true p = let w = shared-of l x ok f p in absurd (true≢false (sym (w .has) ∙ new (w .k) (w .low)))

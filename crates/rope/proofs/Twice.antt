@@ -1,11 +1,12 @@
 -- no span has an id of one before it: no id stands twice
 use Prim.Native.Nat.{ℕ, zero, suc, _+_, _-_, _*_, _<_, _≤_}
 use mathlib.Core.Path.{_≡_, refl, sym, ap, ap₂, subst, _∙_}
-use mathlib.Core.Bool.{Bool, true, false, _||_, cond, true≢false, false≢true}
+use mathlib.Core.Bool.{Bool, true, false, not, _&&_, _||_, cond, true≢false, false≢true}
 use mathlib.Core.List.{List, [], _∷_, _++_, append-assoc, append-nil}
 use native.Mathlib.Omega.{arith}
 use native.Mathlib.Numerals.{add-one}
 use lib.ListN.{length, take, drop}
+use borrow.Author.Tests.{not-true}
 use Rattle.span.specs.declared.ids.OptId.{OptId}
 use Rattle.span.specs.declared.ids.OptId.the-variants.{Nothing, At}
 use Rattle.span.specs.declared.span.FugueSpan.{FugueSpan}
@@ -19,11 +20,12 @@ use Rattle.store.specs.Row.{rows, rowAt}
 use Rattle.rope.specs.declared.find.Offset.{Offset}
 use Rattle.rope.specs.declared.find.Offset.the-variants as Off
 use Rattle.rope.specs.Place.{memId, Distinct}
+use Rattle.rope.specs.Store.{distinctIds}
 use Rattle.rope.specs.Spans.{offsetOf, covered, AllOk, Fresh, holdsAny, apartRows}
-use Rattle.rope.proofs.Offsets.{unit-id, unit-off, not-unit, inc-ne}
-use Rattle.rope.proofs.Lists.{or-left, or-right, or-both, mem-append}
+use Rattle.rope.proofs.Offsets.{unit-id, unit-off, not-unit, inc-ne, covers-units}
+use Rattle.rope.proofs.Lists.{or-left, or-right, or-both, and-true, mem-append, distinct-apart}
 use Rattle.rope.proofs.Rights.{row-drop, row-take, row-none}
-use Rattle.rope.proofs.Apart.{fresh-of}
+use Rattle.rope.proofs.Apart.{fresh-of, covered-unit, Shared, shared-of}
 
 rows-take : (i n : ℕ) (s : List ℕ) → i ≤ n → rows i s ≡ take i (rows n s)
 unfolding rows
@@ -103,3 +105,45 @@ apart-distinct (v ∷ l) S okl okS d e = go (λ a b c. apart-distinct l (S ++ (v
         (rec (ok-snoc S v okS (okl .0))
         (subst Distinct (sym (one-more S v)) (distinct-append (expand S) (unitsOf v) d (units-distinct v (okl .0)) (disjoint v (okl .0) (expand S) (fresh-of S v okS (okl .0) p))))
         q)
+
+-- ---- the converse
+
+-- an id of a span is one of its units'
+own-unit : (v : FugueSpan) (l : List FugueSpan) → spanCode v ≡ 0 → (k : ℕ) → k < lenSpan v → memId (At (incId (v .id) k)) (expand (v ∷ l)) ≡ true
+unfolding expand
+own-unit v l ok k h =
+    mem-append (At (incId (v .id) k)) (unitsOf v) (expand l) ∙
+    or-left (memId (At (incId (v .id) k)) (unitsOf v)) (memId (At (incId (v .id) k)) (expand l))
+    (covers-units v ok (At (incId (v .id) k)) ∙ covered-unit v ok k h)
+
+pub distinct-apart-rows : (l S : List FugueSpan) → AllOk l → AllOk S → Distinct (expand (S ++ l)) → apartRows S l ≡ true
+unfolding apartRows AllOk
+distinct-apart-rows [] S okl okS d = refl
+distinct-apart-rows (v ∷ l) S okl okS d = go (holdsAny S v) refl (distinct-apart-rows l (S ++ (v ∷ [])) (okl .1) (ok-snoc S v okS (okl .0)) (subst (λ (z : List FugueSpan). Distinct (expand z)) (sym (append-assoc S (v ∷ []) l)) d))
+  where
+    go : (t : Bool) → holdsAny S v ≡ t → apartRows (S ++ (v ∷ [])) l ≡ true → cond t false (apartRows (S ++ (v ∷ [])) l) ≡ true
+    go false p rec = rec
+    go true p rec =
+        let w = shared-of S v okS (okl .0) p in
+        absurd (true≢false (sym (own-unit v l (okl .0) (w .k) (w .low)) ∙ distinct-apart (At (incId (v .id) (w .k))) (expand S) (expand (v ∷ l)) (subst Distinct (expand-append S (v ∷ l)) d) (w .has)))
+
+-- the two tests agree
+pub distinct-of : (us : List FugueSpan) → distinctIds us ≡ true → Distinct us
+unfolding distinctIds Distinct
+distinct-of [] e = tt
+distinct-of (u ∷ us) e = let w = and-true (not (memId (At (u .id)) us)) (distinctIds us) e in (not-true (memId (At (u .id)) us) (w .0), distinct-of us (w .1))
+
+of-distinct : (us : List FugueSpan) → Distinct us → distinctIds us ≡ true
+unfolding distinctIds Distinct
+of-distinct [] d = refl
+of-distinct (u ∷ us) d = ap₂ (λ (a b : Bool). not a && b) (d .0) (of-distinct us (d .1))
+
+pub apart-same : (l : List FugueSpan) → AllOk l → apartRows [] l ≡ distinctIds (expand l)
+unfolding AllOk expand Distinct
+apart-same l ok = go (apartRows [] l) refl (distinctIds (expand l)) refl
+  where
+    go : (t : Bool) → apartRows [] l ≡ t → (u : Bool) → distinctIds (expand l) ≡ u → t ≡ u
+    go true p true q = refl
+    go false p false q = refl
+    go true p false q = sym (of-distinct (expand l) (apart-distinct l [] ok tt tt p)) ∙ q
+    go false p true q = sym p ∙ distinct-apart-rows l [] ok tt (distinct-of (expand l) q)

@@ -1,13 +1,18 @@
-// The parts of refusal 15: each span well formed, the list joined, no id twice.
+// What a well formed list is (refusal 15), part by part: the spans and their joins, the units, the ids, the origins.
 ghost use mathlib.Core.Path.{_≡_};
 ghost use mathlib.Core.List.{[]};
 ghost use Prim.Native.Nat.{_+_, _*_, _≤_, _<_};
 ghost use lib.ListN.{length, drop};
+ghost use Rattle.span.specs.Units.{expand};
 ghost use Rattle.store.specs.Row.{rows};
-ghost use Rattle.rope.specs.Spans.{apartRows};
-ghost use Rattle.rope.specs.Store.{touching, joinedRows};
+ghost use Rattle.rope.specs.Spans.{apartRows, AllOk};
+ghost use Rattle.rope.specs.Store.{touching, joinedRows, named, originsNamed, wellFormed};
+use crate::find::has;
 use crate::find::holds;
+use crate::place::len_of;
+use span::ids::OptId;
 use span::span::FugueSpan;
+use store::limits::UNITS;
 
 // Whether no id stands twice in the list (of refusal 15).
 pub fn distinct(s: &[u8], n: usize) -> bool
@@ -53,4 +58,67 @@ pub fn joined(s: &[u8], n: usize) -> bool
         i += 1;
     }
     true
+}
+
+// The number of units.
+pub fn units(s: &[u8], n: usize) -> usize
+    requires { ⌜ (n * 72 ≤ length (now s)) × (n ≤ 65536) ⌝ }
+    ensures { λ r. ⌜ r ≡ length (expand (rows n (now (s .entry)))) ⌝ }
+{
+    let mut i = 0;
+    let mut sum = 0;
+    while i < n {
+        sum += len_of(store::get_row(s, i));
+        i += 1;
+    }
+    sum
+}
+
+// Whether an origin is none or names a unit of the list.
+pub fn is_named(s: &[u8], n: usize, o: OptId) -> bool
+    requires { ⌜ (n * 72 ≤ length (now s)) × AllOk (rows n (now s)) ⌝ }
+    ensures { λ r. ⌜ r ≡ named o (expand (rows n (now (s .entry)))) ⌝ }
+{
+    match o {
+        OptId::Nothing => true,
+        OptId::At(_) => has(s, n, o),
+    }
+}
+
+// Whether every origin is.
+pub fn origins(s: &[u8], n: usize) -> bool
+    requires { ⌜ (n * 72 ≤ length (now s)) × AllOk (rows n (now s)) ⌝ }
+    ensures { λ r. ⌜ r ≡ originsNamed (rows n (now (s .entry))) (expand (rows n (now (s .entry)))) ⌝ }
+{
+    let mut i = 0;
+    while i < n {
+        let row = store::get_row(s, i);
+        let left = row.origin_left;
+        let right = row.origin_right;
+        if !is_named(s, n, left) {
+            return false;
+        }
+        if !is_named(s, n, right) {
+            return false;
+        }
+        i += 1;
+    }
+    true
+}
+
+// Whether n rows are a well formed list. Plain: each id and each origin is looked up among all rows.
+pub fn well_formed(s: &[u8], n: usize) -> bool
+    requires { ⌜ (n * 72 ≤ length (now s)) × (n ≤ 65536) ⌝ }
+    ensures { λ r. ⌜ r ≡ wellFormed (rows n (now (s .entry))) ⌝ }
+{
+    if !joined(s, n) {
+        return false;
+    }
+    if UNITS < units(s, n) {
+        return false;
+    }
+    if !distinct(s, n) {
+        return false;
+    }
+    origins(s, n)
 }

@@ -2,8 +2,10 @@
 ghost use mathlib.Core.Path.{_≡_};
 ghost use Prim.Native.Nat.{_*_, _≤_};
 ghost use lib.ListN.{length};
+ghost use Rattle.span.specs.Units.{expand};
 ghost use Rattle.store.specs.Row.{rows};
-ghost use Rattle.rope.specs.Spans.{offsetOf, covered, meetsSpan, holdsAny};
+ghost use Rattle.rope.specs.Place.{memId};
+ghost use Rattle.rope.specs.Spans.{offsetOf, covered, findIn, meetsSpan, holdsAny, AllOk};
 use span::ids::OptId;
 use span::span::FugueSpan;
 use span::status::Counter;
@@ -52,6 +54,38 @@ pub fn covers(row: FugueSpan, o: OptId) -> bool
     match offset_of(row, o) {
         Offset::Nothing => false,
         Offset::At(_) => true,
+    }
+}
+
+// Where the list has an id: the row, and the units before it there.
+pub enum Found {
+    At(usize, u32),
+    Nothing,
+}
+
+pub fn find_elem(s: &[u8], n: usize, o: OptId) -> Found
+    requires { ⌜ n * 72 ≤ length (now s) ⌝ }
+    ensures { λ r. ⌜ r ≡ findIn (rows n (now (s .entry))) o 0 ⌝ }
+{
+    let mut i = 0;
+    while i < n {
+        match offset_of(store::get_row(s, i), o) {
+            Offset::At(k) => return Found::At(i, k),
+            Offset::Nothing => {}
+        }
+        i += 1;
+    }
+    Found::Nothing
+}
+
+// Whether an id is one of the list's.
+pub fn has(s: &[u8], n: usize, o: OptId) -> bool
+    requires { ⌜ (n * 72 ≤ length (now s)) × AllOk (rows n (now s)) ⌝ }
+    ensures { λ r. ⌜ r ≡ memId o (expand (rows n (now (s .entry)))) ⌝ }
+{
+    match find_elem(s, n, o) {
+        Found::At(_, _) => true,
+        Found::Nothing => false,
     }
 }
 

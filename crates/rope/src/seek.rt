@@ -6,7 +6,7 @@ ghost use Rattle.span.specs.Span.{activeLen};
 ghost use Rattle.span.specs.Units.{expand};
 ghost use Rattle.store.specs.Row.{rows};
 ghost use Rattle.rope.specs.Place.{shown};
-ghost use Rattle.rope.specs.Spans.{Held, seekIn};
+ghost use Rattle.rope.specs.Spans.{Stored, seekIn};
 use span::span::FugueSpan;
 
 // A place in the list: after so many units of a row.
@@ -37,16 +37,15 @@ pub fn seek(s: &[u8], n: usize, pos: u32) -> Cursor
     Cursor { row: i, offset: 0 }
 }
 
-// The visible length (refusal 8).
-pub fn visible(s: &[u8], n: usize, units: usize) -> usize
-    requires { ⌜ Held n units (now s) ⌝ }
+// The visible length. A well formed list has few enough units to count.
+pub fn visible(s: &[u8], n: usize) -> usize
+    requires { ⌜ Stored n (now s) ⌝ }
     ensures { λ r. ⌜ r ≡ shown (expand (rows n (now (s .entry)))) ⌝ }
 {
     let mut i = 0;
     let mut sum = 0;
     while i < n {
-        let row = store::get_row(s, i);
-        sum += active_of(row);
+        sum += active_of(store::get_row(s, i));
         i += 1;
     }
     sum

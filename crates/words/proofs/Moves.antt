@@ -1,12 +1,13 @@
--- A move up by d of the n bytes from a on, from the top down: what is done when k is the next place
-use mathlib.Core.Path.{_≡_, refl, sym, ap, _∙_}
+-- Moves by d of a run of n bytes, byte by byte: what is done when k is the next place. Up goes from the top down, down from the
+-- bottom up. Assumes nothing.
+use mathlib.Core.Path.{_≡_, sym, ap, _∙_}
 use mathlib.Core.List.{List, [], _∷_, _++_}
-use Prim.Native.Nat.{ℕ, zero, suc, _+_, _-_, _*_, _≤_, _<_}
+use Prim.Native.Nat.{ℕ, zero, suc, _+_, _-_, _≤_, _<_}
 use native.Mathlib.Omega.{arith}
 use lib.ListN.{length, getD, set, take, drop, length-drop}
-use lib.Seq.{drop-cons, take-add, length-take-le}
+use lib.Seq.{drop-cons, take-suc, getD-drop, length-take-le}
 use Rattle.words.specs.Le.{put}
-use Rattle.words.proofs.Puts.{put-nil, set-put, getD-put}
+use Rattle.words.proofs.Puts.{put-nil, set-put, getD-put, set-put-end, getD-put-after}
 
 pub record Moved (d : ℕ) (s₀ : List ℕ) (a n : ℕ) (s : List ℕ) (k : ℕ) : Type 0 where
   pub low : a ≤ k
@@ -58,3 +59,45 @@ module _ (d : ℕ) (s₀ : List ℕ) (a n : ℕ) where
 
       all : a + n - a ≡ n
       all = omega arith
+
+-- ---- down
+
+pub record Lowered (d : ℕ) (s₀ : List ℕ) (a n : ℕ) (s : List ℕ) (k : ℕ) : Type 0 where
+  pub low : a ≤ k
+  pub high : k ≤ a + n
+  pub long : length s ≡ length s₀
+  pub is : s ≡ put a (take (k - a) (drop (a + d) s₀)) s₀
+
+module _ (d : ℕ) (s₀ : List ℕ) (a : ℕ) where
+  pub down-start : s₀ ≡ put a (take (a - a) (drop (a + d) s₀)) s₀
+  down-start = rw (none a) (sym (put-nil s₀ a))
+    where
+      none : (m : ℕ) → m - m ≡ 0
+      none m = omega arith
+
+  -- one byte more, the m-th
+  at-end : (m : ℕ) → a + m + d < length s₀
+      → set (put a (take m (drop (a + d) s₀)) s₀) (a + m) (getD (put a (take m (drop (a + d) s₀)) s₀) (a + m + d) 0) ≡ put a (take (suc m) (drop (a + d) s₀)) s₀
+  at-end m h =
+      let left : m < length (drop (a + d) s₀) = rw length-drop (omega arith) in
+      let l : length (take m (drop (a + d) s₀)) ≡ m = length-take-le m (drop (a + d) s₀) (omega arith) in
+      let at : a + length (take m (drop (a + d) s₀)) ≡ a + m = ap (λ (k : ℕ). a + k) l in
+      ap (λ (x : ℕ). set (put a (take m (drop (a + d) s₀)) s₀) (a + m) x) (getD-put-after s₀ (take m (drop (a + d) s₀)) a (a + m + d) (omega arith) (omega arith))
+      ∙ ap (λ (i : ℕ). set (put a (take m (drop (a + d) s₀)) s₀) i (getD s₀ (a + m + d) 0)) (sym at)
+      ∙ set-put-end s₀ (take m (drop (a + d) s₀)) a (getD s₀ (a + m + d) 0) (omega arith)
+      ∙ ap (λ (l : List ℕ). put a l s₀) (sym (take-suc (drop (a + d) s₀) m 0 left ∙ ap (λ (x : ℕ). take m (drop (a + d) s₀) ++ (x ∷ [])) same))
+    where
+      same : getD (drop (a + d) s₀) m 0 ≡ getD s₀ (a + m + d) 0
+      same = getD-drop (a + d) s₀ m 0 ∙ ap (λ (i : ℕ). getD s₀ i 0) (let e : a + d + m ≡ a + m + d = omega arith in e)
+
+  pub down-step : (s : List ℕ) (k : ℕ) → a ≤ k → k + d < length s₀ → s ≡ put a (take (k - a) (drop (a + d) s₀)) s₀
+      → set s k (getD s (k + d) 0) ≡ put a (take (k + 1 - a) (drop (a + d) s₀)) s₀
+  down-step s k h r e =
+      let m : a + (k - a) ≡ k = omega arith in
+      let n : k + 1 - a ≡ suc (k - a) = omega arith in
+      rw (e, n)
+      (ap (λ (i : ℕ). set (put a (take (k - a) (drop (a + d) s₀)) s₀) i (getD (put a (take (k - a) (drop (a + d) s₀)) s₀) (i + d) 0)) (sym m)
+      ∙ at-end (k - a) (omega arith))
+
+  pub down-end : (n : ℕ) (s : List ℕ) (k : ℕ) → k ≡ a + n → s ≡ put a (take (k - a) (drop (a + d) s₀)) s₀ → s ≡ put a (take n (drop (a + d) s₀)) s₀
+  down-end n s k h e = e ∙ ap (λ (m : ℕ). put a (take m (drop (a + d) s₀)) s₀) (let q : k - a ≡ n = omega arith in q)

@@ -1,11 +1,11 @@
--- bytes that are put one after the other; how long a list is after a put; what is read back
-use mathlib.Core.Path.{_≡_, refl, sym, ap, _∙_, subst}
+-- All that is known of `put`: bytes put one after the other, how long a list is after a put, and what is read back. Assumes nothing.
+use mathlib.Core.Path.{_≡_, refl, sym, ap, _∙_}
 use mathlib.Core.List.{List, [], _∷_, _++_, append-assoc, append-nil}
-use Prim.Native.Nat.{ℕ, zero, suc, _+_, _-_, _*_, _/_, _%_, _^_, _≤_, _<_}
+use Prim.Native.Nat.{ℕ, zero, suc, _+_, _-_, _*_, _/_, _^_, _≤_, _<_}
 use native.Mathlib.Omega.{arith}
 use native.Mathlib.Nat.{pow-suc, add-zero}
 use lib.ListN.{length, take, drop, set, getD, List·getD-append, length-append, length-drop, take-append-drop}
-use lib.Seq.{take-suc, set-at, getD-take, take-append-le, drop-append-le, length-take-le, take-at, drop-at, drop-append-add, drop-drop}
+use lib.Seq.{take-suc, drop-cons, set-at, getD-take, getD-drop, getD-append-add, take-append-le, drop-append-le, length-take-le, take-at, drop-at, drop-drop}
 use Rattle.words.specs.Le.{le, bytesOf, put}
 
 pub length-bytes : (k v : ℕ) → length (bytesOf k v) ≡ k
@@ -103,6 +103,27 @@ pub getD-put : (s bs : List ℕ) (p j : ℕ) → j < p → p ≤ length s → ge
 unfolding put
 getD-put s bs p j h k =
     rw append-assoc (List·getD-append (take p s) (bs ++ drop (p + length bs) s) 0 j (rw (length-take-le p s k) h)) ∙ getD-take p s j 0 h
+
+-- ---- a put that grows by one byte at its end, as a loop that goes up makes it
+
+pub set-put-end : (s bs : List ℕ) (a x : ℕ) → a + length bs < length s → set (put a bs s) (a + length bs) x ≡ put a (bs ++ (x ∷ [])) s
+unfolding put
+set-put-end s bs a x h =
+    rw (drop-cons s (a + length bs) 0 h)
+    (set-at (take a s ++ bs) (getD s (a + length bs) 0) (drop (suc (a + length bs)) s) x (a + length bs) (head s bs a (omega arith))
+    ∙ rw (length-append bs (x ∷ []), sym (append-assoc (take a s) bs (x ∷ [])), append-assoc (take a s ++ bs) (x ∷ []))
+    (ap (λ (n : ℕ). (take a s ++ bs) ++ (x ∷ drop n s)) (let e : suc (a + length bs) ≡ a + (length bs + 1) = omega arith in e)))
+
+pub getD-put-after : (s bs : List ℕ) (a j : ℕ) → a ≤ length s → a + length bs ≤ j → getD (put a bs s) j 0 ≡ getD s j 0
+unfolding put
+getD-put-after s bs a j h k =
+    let l = head s bs a h in
+    let e : length (take a s ++ bs) + (j - (a + length bs)) ≡ j = omega arith in
+    let f : a + length bs + (j - (a + length bs)) ≡ j = omega arith in
+    ap (λ (i : ℕ). getD (put a bs s) i 0) (sym e)
+    ∙ getD-append-add (take a s ++ bs) (drop (a + length bs) s) (j - (a + length bs)) 0
+    ∙ getD-drop (a + length bs) s (j - (a + length bs)) 0
+    ∙ ap (λ (i : ℕ). getD s i 0) f
 
 -- ---- a part of what was put
 

@@ -1,10 +1,10 @@
 -- what the byte loads and stores of a word come to
-use mathlib.Core.Path.{_≡_, refl, sym, ap, _∙_}
-use mathlib.Core.List.{List, [], _∷_, _++_}
+use mathlib.Core.Path.{_≡_}
+use mathlib.Core.List.{List, [], _∷_}
 use Prim.Native.Nat.{ℕ, suc, _+_, _*_, _/_, _%_, _≤_, _<_}
 use native.Mathlib.Omega.{arith}
 use lib.ListN.{length, getD, set, take, drop}
-use lib.Seq.{drop-cons, sets, sets-eq}
+use lib.Seq.{drop-cons, sets-eq}
 use Rattle.words.specs.Le.{le, bytesOf, put}
 
 -- at + k, as the definitions recurse
@@ -30,6 +30,20 @@ p7 : (n : ℕ) → n + 7 ≡ suc (suc (suc (suc (suc (suc (suc n))))))
 p7 n = omega arith
 
 module _ (s : List ℕ) (at : ℕ) where
+  pub two : at + 2 ≤ length s → take 2 (drop at s) ≡ getD s at 0 ∷ getD s (at + 1) 0 ∷ []
+  two h =
+      let h0 : at < length s = omega arith in
+      let h1 : suc at < length s = omega arith in
+      rw (p1, drop-cons s at 0, drop-cons s (suc at) 0)
+
+  pub stored2 : (v : ℕ) → at + 2 ≤ length s → set (set s at (v % 256)) (at + 1) (v / 256 % 256) ≡ put at (bytesOf 2 v) s
+  unfolding put bytesOf
+  stored2 v h = rw p1 (sets-eq (bytesOf 2 v) s at h)
+
+  pub word2 : at + 2 ≤ length s → le (take 2 (drop at s)) ≡ getD s at 0 + 256 * getD s (at + 1) 0
+  unfolding le
+  word2 h = rw (two h) (omega arith)
+
   pub four : at + 4 ≤ length s → take 4 (drop at s) ≡ getD s at 0 ∷ getD s (at + 1) 0 ∷ getD s (at + 2) 0 ∷ getD s (at + 3) 0 ∷ []
   four h =
       let h0 : at < length s = omega arith in

@@ -1,5 +1,13 @@
-// Little-endian words in a byte slice.
+// Little-endian numbers at an offset of a lent byte slice: the alphabet in which every store and history is written.
+//
+// A reader answers `le` of the bytes at its offset, the number that they say. A writer promises `put at bytes s`: the slice with
+// those bytes in the place of as many from `at` on, and every other byte as it was. All that is known of `put` stands in
+// proofs/Puts. The offsets are the caller's to know: each function asks that its bytes lie within the slice, and no public
+// entry of the product is among them. Signed numbers are in `signed`, runs of bytes that move in `shift`.
+//
+// The sums and quotients below are the shape that the compiler turns into one load or one store.
 pub mod shift;
+pub mod signed;
 
 ghost use mathlib.Core.Path.{_≡_};
 ghost use Prim.Native.Nat.{_+_, _*_, _≤_, _<_};
@@ -7,6 +15,7 @@ ghost use mathlib.Core.List.{_++_};
 ghost use lib.ListN.{length, take, drop};
 ghost use Rattle.words.specs.Le.{le, bytesOf, put};
 
+// A byte as a wider number. A function of its own, so that what it answers fits with nothing to prove at the call.
 pub fn wide(x: u8) -> u64
     ensures { λ r. ⌜ (r ≡ x) × (r < 256) ⌝ }
 {
@@ -17,6 +26,12 @@ pub fn wide32(x: u8) -> u32
     ensures { λ r. ⌜ (r ≡ x) × (r < 256) ⌝ }
 {
     x as u32
+}
+
+pub fn wide16(x: u8) -> u16
+    ensures { λ r. ⌜ (r ≡ x) × (r < 256) ⌝ }
+{
+    x as u16
 }
 
 pub fn get_u64(s: &[u8], at: usize) -> u64
@@ -38,6 +53,13 @@ pub fn get_u32(s: &[u8], at: usize) -> u32
     ensures { λ r. ⌜ r ≡ le (take 4 (drop at (now (s .entry)))) ⌝ }
 {
     wide32(s[at]) + 256 * (wide32(s[at + 1]) + 256 * (wide32(s[at + 2]) + 256 * wide32(s[at + 3])))
+}
+
+pub fn get_u16(s: &[u8], at: usize) -> u16
+    requires { ⌜ at + 2 ≤ length (now s) ⌝ }
+    ensures { λ r. ⌜ r ≡ le (take 2 (drop at (now (s .entry)))) ⌝ }
+{
+    wide16(s[at]) + 256 * wide16(s[at + 1])
 }
 
 pub fn put_u64(s: &mut [u8], at: usize, v: u64)
@@ -71,7 +93,15 @@ pub fn put_u32(s: &mut [u8], at: usize, v: u32)
     s[at + 3] = (v / 256 / 256 / 256 % 256) as u8;
 }
 
-// Four words, one after the other.
+pub fn put_u16(s: &mut [u8], at: usize, v: u16)
+    requires { ⌜ at + 2 ≤ length (now s) ⌝ }
+    ensures { λ r. ⌜ now (s .exit) ≡ put at (bytesOf 2 v) (now (s .entry)) ⌝ }
+{
+    s[at] = (v % 256) as u8;
+    s[at + 1] = (v / 256 % 256) as u8;
+}
+
+// Four words, one after the other: one call in the place of four, for functions that write a whole row.
 pub fn put4_u64(s: &mut [u8], at: usize, a: u64, b: u64, c: u64, d: u64)
     requires { ⌜ at + 32 ≤ length (now s) ⌝ }
     ensures { λ r. ⌜ now (s .exit) ≡ put at (bytesOf 8 a ++ bytesOf 8 b ++ bytesOf 8 c ++ bytesOf 8 d) (now (s .entry)) ⌝ }
@@ -90,32 +120,4 @@ pub fn put4_u32(s: &mut [u8], at: usize, a: u32, b: u32, c: u32, d: u32)
     put_u32(s, at + 4, b);
     put_u32(s, at + 8, c);
     put_u32(s, at + 12, d);
-}
-
-#[no_mangle]
-pub extern "C" fn x_get_u64(s: &[u8], at: usize) -> u64
-    requires { ⌜ at + 8 ≤ length (now s) ⌝ }
-{
-    get_u64(s, at)
-}
-
-#[no_mangle]
-pub extern "C" fn x_get_u32(s: &[u8], at: usize) -> u32
-    requires { ⌜ at + 4 ≤ length (now s) ⌝ }
-{
-    get_u32(s, at)
-}
-
-#[no_mangle]
-pub extern "C" fn x_put_u64(s: &mut [u8], at: usize, v: u64)
-    requires { ⌜ at + 8 ≤ length (now s) ⌝ }
-{
-    put_u64(s, at, v)
-}
-
-#[no_mangle]
-pub extern "C" fn x_put_u32(s: &mut [u8], at: usize, v: u32)
-    requires { ⌜ at + 4 ≤ length (now s) ⌝ }
-{
-    put_u32(s, at, v)
 }

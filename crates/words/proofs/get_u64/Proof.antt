@@ -3,159 +3,118 @@ use Rattle.words.proofs.Words.{word8}
 use borrow.Author.Needs.{needs}
 use Rattle.words.proofs.get_u64.Statement.{statement}
 use Rattle.words.proofs.get_u64.Tie as tie
-use Rattle.words.proofs.get_u64.Reads as reads
-use Rattle.words.proofs.get_u64.Lts as lts
-use Rattle.words.proofs.wide.Reads as wide-reads
 
--- src/lib.rt:23:10
 shared-slice-read-wide : tie.Need-shared-slice-read-wide
 shared-slice-read-wide c = search needs
 
--- src/lib.rt:23:5
 wide-requires : tie.Need-wide-requires
 wide-requires c κs = search needs
 
--- src/lib.rt:24:18
 add-wide : tie.Need-add-wide
 add-wide c = search needs
 
--- src/lib.rt:24:16
 shared-slice-read-wide-2 : tie.Need-shared-slice-read-wide-2
 shared-slice-read-wide-2 c = search needs
 
--- src/lib.rt:24:11
 wide-requires-2 : tie.Need-wide-requires-2
 wide-requires-2 c κs = search needs
 
--- src/lib.rt:24:11
 mul-result : tie.Need-mul-result
 mul-result c = search needs
 
--- src/lib.rt:23:5
 add-result : tie.Need-add-result
 add-result c = search needs
 
--- src/lib.rt:25:18
 add-wide-2 : tie.Need-add-wide-2
 add-wide-2 c = search needs
 
--- src/lib.rt:25:16
 shared-slice-read-wide-3 : tie.Need-shared-slice-read-wide-3
 shared-slice-read-wide-3 c = search needs
 
--- src/lib.rt:25:11
 wide-requires-3 : tie.Need-wide-requires-3
 wide-requires-3 c κs = search needs
 
--- src/lib.rt:25:11
 mul-result-2 : tie.Need-mul-result-2
 mul-result-2 c = search needs
 
--- src/lib.rt:23:5
 add-result-2 : tie.Need-add-result-2
 add-result-2 c = search needs
 
--- src/lib.rt:26:18
 add-wide-3 : tie.Need-add-wide-3
 add-wide-3 c = search needs
 
--- src/lib.rt:26:16
 shared-slice-read-wide-4 : tie.Need-shared-slice-read-wide-4
 shared-slice-read-wide-4 c = search needs
 
--- src/lib.rt:26:11
 wide-requires-4 : tie.Need-wide-requires-4
 wide-requires-4 c κs = search needs
 
--- src/lib.rt:26:11
 mul-result-3 : tie.Need-mul-result-3
 mul-result-3 c = search needs
 
--- src/lib.rt:23:5
 add-result-3 : tie.Need-add-result-3
 add-result-3 c = search needs
 
--- src/lib.rt:27:18
 add-wide-4 : tie.Need-add-wide-4
 add-wide-4 c = search needs
 
--- src/lib.rt:27:16
 shared-slice-read-wide-5 : tie.Need-shared-slice-read-wide-5
 shared-slice-read-wide-5 c = search needs
 
--- src/lib.rt:27:11
 wide-requires-5 : tie.Need-wide-requires-5
 wide-requires-5 c κs = search needs
 
--- src/lib.rt:27:11
 mul-result-4 : tie.Need-mul-result-4
 mul-result-4 c = search needs
 
--- src/lib.rt:23:5
 add-result-4 : tie.Need-add-result-4
 add-result-4 c = search needs
 
--- src/lib.rt:28:18
 add-wide-5 : tie.Need-add-wide-5
 add-wide-5 c = search needs
 
--- src/lib.rt:28:16
 shared-slice-read-wide-6 : tie.Need-shared-slice-read-wide-6
 shared-slice-read-wide-6 c = search needs
 
--- src/lib.rt:28:11
 wide-requires-6 : tie.Need-wide-requires-6
 wide-requires-6 c κs = search needs
 
--- src/lib.rt:28:11
 mul-result-5 : tie.Need-mul-result-5
 mul-result-5 c = search needs
 
--- src/lib.rt:23:5
 add-result-5 : tie.Need-add-result-5
 add-result-5 c = search needs
 
--- src/lib.rt:29:18
 add-wide-6 : tie.Need-add-wide-6
 add-wide-6 c = search needs
 
--- src/lib.rt:29:16
 shared-slice-read-wide-7 : tie.Need-shared-slice-read-wide-7
 shared-slice-read-wide-7 c = search needs
 
--- src/lib.rt:29:11
 wide-requires-7 : tie.Need-wide-requires-7
 wide-requires-7 c κs = search needs
 
--- src/lib.rt:29:11
 mul-result-6 : tie.Need-mul-result-6
 mul-result-6 c = search needs
 
--- src/lib.rt:23:5
 add-result-6 : tie.Need-add-result-6
 add-result-6 c = search needs
 
--- src/lib.rt:30:18
 add-wide-7 : tie.Need-add-wide-7
 add-wide-7 c = search needs
 
--- src/lib.rt:30:16
 shared-slice-read-wide-8 : tie.Need-shared-slice-read-wide-8
 shared-slice-read-wide-8 c = search needs
 
--- src/lib.rt:30:11
 wide-requires-8 : tie.Need-wide-requires-8
 wide-requires-8 c κs = search needs
 
--- src/lib.rt:30:11
 mul-result-7 : tie.Need-mul-result-7
 mul-result-7 c = search needs
 
--- src/lib.rt:23:5
 add-result-7 : tie.Need-add-result-7
 add-result-7 c = search needs
 
--- src/lib.rt:19:1
 returns : tie.Need-returns
 returns c =
     let e = c .before .before .before .before .before .before .before .before .before .before .before .before .before .before .before .before .before in

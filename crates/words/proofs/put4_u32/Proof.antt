@@ -4,43 +4,31 @@ use Rattle.words.proofs.Puts.{four-puts}
 use borrow.Author.Needs.{needs}
 use Rattle.words.proofs.put4_u32.Statement.{statement}
 use Rattle.words.proofs.put4_u32.Tie as tie
-use Rattle.words.proofs.put4_u32.Reads as reads
-use Rattle.words.proofs.put4_u32.Lts as lts
-use Rattle.words.proofs.put_u32.Reads as put-u32-reads
 
--- src/lib.rt:87:5
 put-u32-requires : tie.Need-put-u32-requires
 put-u32-requires c κs = search needs
 
--- src/lib.rt:88:16
 add-put-u32 : tie.Need-add-put-u32
 add-put-u32 c = search needs
 
--- src/lib.rt:88:5
 put-u32-requires-2 : tie.Need-put-u32-requires-2
 put-u32-requires-2 c κs = search needs
 
--- src/lib.rt:89:16
 add-put-u32-2 : tie.Need-add-put-u32-2
 add-put-u32-2 c = search needs
 
--- src/lib.rt:89:5
 put-u32-requires-3 : tie.Need-put-u32-requires-3
 put-u32-requires-3 c κs = search needs
 
--- src/lib.rt:90:16
 add-put-u32-3 : tie.Need-add-put-u32-3
 add-put-u32-3 c = search needs
 
--- src/lib.rt:90:5
 put-u32-requires-4 : tie.Need-put-u32-requires-4
 put-u32-requires-4 c κs = search needs
 
--- src/lib.rt:83:1
 same-length : tie.Need-same-length
 same-length c = search needs
 
--- src/lib.rt:83:1
 returns : tie.Need-returns
 returns c =
     let c4 = c .before .before in

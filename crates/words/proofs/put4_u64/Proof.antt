@@ -4,43 +4,31 @@ use Rattle.words.proofs.Puts.{four-puts}
 use borrow.Author.Needs.{needs}
 use Rattle.words.proofs.put4_u64.Statement.{statement}
 use Rattle.words.proofs.put4_u64.Tie as tie
-use Rattle.words.proofs.put4_u64.Reads as reads
-use Rattle.words.proofs.put4_u64.Lts as lts
-use Rattle.words.proofs.put_u64.Reads as put-u64-reads
 
--- src/lib.rt:77:5
 put-u64-requires : tie.Need-put-u64-requires
 put-u64-requires c κs = search needs
 
--- src/lib.rt:78:16
 add-put-u64 : tie.Need-add-put-u64
 add-put-u64 c = search needs
 
--- src/lib.rt:78:5
 put-u64-requires-2 : tie.Need-put-u64-requires-2
 put-u64-requires-2 c κs = search needs
 
--- src/lib.rt:79:16
 add-put-u64-2 : tie.Need-add-put-u64-2
 add-put-u64-2 c = search needs
 
--- src/lib.rt:79:5
 put-u64-requires-3 : tie.Need-put-u64-requires-3
 put-u64-requires-3 c κs = search needs
 
--- src/lib.rt:80:16
 add-put-u64-3 : tie.Need-add-put-u64-3
 add-put-u64-3 c = search needs
 
--- src/lib.rt:80:5
 put-u64-requires-4 : tie.Need-put-u64-requires-4
 put-u64-requires-4 c κs = search needs
 
--- src/lib.rt:73:1
 same-length : tie.Need-same-length
 same-length c = search needs
 
--- src/lib.rt:73:1
 returns : tie.Need-returns
 returns c =
     let c4 = c .before .before in

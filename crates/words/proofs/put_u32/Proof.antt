@@ -4,58 +4,43 @@ use Rattle.words.proofs.Words.{stored4}
 use borrow.Author.Needs.{needs}
 use Rattle.words.proofs.put_u32.Statement.{statement}
 use Rattle.words.proofs.put_u32.Tie as tie
-use Rattle.words.proofs.put_u32.Reads as reads
-use Rattle.words.proofs.put_u32.Lts as lts
 
--- src/lib.rt:65:13
 cast-s : tie.Need-cast-s
 cast-s c = search needs
 
--- src/lib.rt:65:5
 slice-write-s : tie.Need-slice-write-s
 slice-write-s c = search needs
 
--- src/lib.rt:66:17
 cast-s-2 : tie.Need-cast-s-2
 cast-s-2 c = search needs
 
--- src/lib.rt:66:7
 add-s : tie.Need-add-s
 add-s c = search needs
 
--- src/lib.rt:66:5
 slice-write-s-2 : tie.Need-slice-write-s-2
 slice-write-s-2 c = simp length-set (omega arith)
 
--- src/lib.rt:67:17
 cast-s-3 : tie.Need-cast-s-3
 cast-s-3 c = search needs
 
--- src/lib.rt:67:7
 add-s-2 : tie.Need-add-s-2
 add-s-2 c = search needs
 
--- src/lib.rt:67:5
 slice-write-s-3 : tie.Need-slice-write-s-3
 slice-write-s-3 c = simp length-set (omega arith)
 
--- src/lib.rt:68:17
 cast-s-4 : tie.Need-cast-s-4
 cast-s-4 c = search needs
 
--- src/lib.rt:68:7
 add-s-3 : tie.Need-add-s-3
 add-s-3 c = search needs
 
--- src/lib.rt:68:5
 slice-write-s-4 : tie.Need-slice-write-s-4
 slice-write-s-4 c = simp length-set (omega arith)
 
--- src/lib.rt:61:1
 same-length : tie.Need-same-length
 same-length c = simp length-set
 
--- src/lib.rt:61:1
 returns : tie.Need-returns
 returns c = stored4 _ _ _ (c .pre)
 

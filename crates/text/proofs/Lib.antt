@@ -1,0 +1,4 @@
+pub mod PartsLaws
+pub mod NumbersLaws
+pub mod NumeralLaws
+pub mod PutsLaws
