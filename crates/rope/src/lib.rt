@@ -2,6 +2,7 @@
 // is the list of spans, `spansOf`, and what that says is its list of units, `expand`. Entries take any bytes and any numbers: they ask `check`
 // first, and every other refusal before they write. Inner functions take the rows from the header on, and require what the entries asked.
 pub mod check;
+pub mod diff;
 pub mod find;
 pub mod insert;
 pub mod place;
