@@ -7,6 +7,7 @@ pub mod check;
 pub mod clear;
 pub mod delete;
 pub mod edit;
+pub mod diff;
 pub mod find;
 pub mod insert;
 pub mod order;
