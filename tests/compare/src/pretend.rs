@@ -2,6 +2,7 @@
 //! It shows that the tests bite: each fault must be found, and no fault must be found where there is none.
 use crate::answer;
 use crate::histories::judge::{Ask, Reading};
+use crate::ropes::{row_of, units_of_row};
 use crate::row::{well_formed, Row};
 use model01::history::Body;
 use model01::rope01::*;
@@ -76,16 +77,6 @@ pub fn run(fault: &str) {
     }
     out.flush().expect("the answers are written");
     std::process::exit(i32::from(fault == "ends"));
-}
-
-fn row_of((u, _): &(Unit, usize)) -> Row {
-    Row { id: u.id, lamport: u.lamport, real: u.real, status: u.status, diff: u.diff, left: u.ol, right: u.or, chunk: u.chunk }
-}
-
-fn units_of_row(r: &Row) -> Vec<Unit> {
-    let first =
-        Unit { id: r.id, lamport: r.lamport, real: r.real, status: r.status, diff: r.diff, ol: r.left, or: r.right, chunk: r.chunk };
-    units_of(&first, r.len().unwrap_or(0) as usize)
 }
 
 impl Pretend {
