@@ -85,7 +85,7 @@ fn faults() -> bool {
             }
         }
     };
-    tries(pretend::FAULTS, &|| random(300, 1, 40));
+    tries(pretend::FAULTS, &|| random(500, 1, 40));
     tries(pretend::HISTORY, &|| histories(100, 1, 25));
     good
 }
