@@ -122,7 +122,7 @@ module _ (s : FugueSpan) (ok : spanCode s ≡ 0) (a b : ℕ) (k : b ≤ lenSpan 
 
 -- ---- deleteFirst over the units of a span
 
-first-zero : (l : List FugueSpan) (i : Id) → deleteFirst l 0 i ≡ l
+pub first-zero : (l : List FugueSpan) (i : Id) → deleteFirst l 0 i ≡ l
 unfolding deleteFirst
 first-zero [] i = refl
 first-zero (u ∷ l) i = refl
@@ -336,7 +336,7 @@ unfolding AllFit AllOk afterOf
 delete-fits d [] c ok = tt
 delete-fits d (s ∷ l) c ok = (fit-delete d s c (ok .0), delete-fits (deleteAfter d s) l (can-after d s c) (ok .1))
 
-part-size : (s : FugueSpan) (i j : ℕ) → length (partOf s i j) ≡ min 1 (j - i)
+pub part-size : (s : FugueSpan) (i j : ℕ) → length (partOf s i j) ≡ min 1 (j - i)
 part-size s i j = go (lt-or i j)
   where
     go : (i < j) ⊎ (j ≤ i) → length (partOf s i j) ≡ min 1 (j - i)

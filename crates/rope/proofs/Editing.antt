@@ -2,10 +2,10 @@
 use Prim.Native.Nat.{ℕ, _+_, _-_, _*_, _<_, _≤_}
 use mathlib.Core.Path.{_≡_, refl, sym, ap, ap₂, subst, _∙_}
 use mathlib.Core.Bool.{Bool, cond}
-use mathlib.Core.List.{List, _++_}
+use mathlib.Core.List.{List, [], _++_, append-nil}
 use native.Mathlib.Omega.{arith}
 use native.Mathlib.Nat.{zero-add}
-use lib.ListN.{length, take, drop, length-drop, length-append}
+use lib.ListN.{length, take, drop, length-drop, length-append, drop-of-length-le}
 use lib.Seq.{take-all, take-append-le, take-append-seam, drop-append-le, drop-append-add, drop-at, drop-drop, length-take-le, ext-getD}
 use borrow.Author.Tests.{eq-eqb, ne-eqb}
 use Rattle.words.specs.Le.{le, bytesOf, put}
@@ -19,7 +19,7 @@ use Rattle.rope.specs.declared.insert.Plan.the-variants.{Join, Own, Cut}
 use Rattle.rope.specs.Store.{count, spansOf}
 use Rattle.rope.specs.Codes.{kept}
 use Rattle.rope.specs.Plans.{Can}
-use Rattle.rope.specs.Edits.{headRest, pastRows, Written, Edited}
+use Rattle.rope.specs.Edits.{headRest, pastRows, Written, WrittenIn, Edited, EditedIn}
 
 -- ---- rows in the front of a buffer
 
@@ -53,31 +53,31 @@ can-front (Cut r i y) n m b h k c =
 -- ---- rows behind a header
 
 module _ (s q : List ℕ) (m : ℕ) (h : 72 ≤ length s) where
-  -- m bytes were lent, and q is given back
-  abbrev pub back : List ℕ
-  back = take 72 s ++ (q ++ drop m (drop 72 s))
+  -- m bytes were lent, and q is given back-in
+  abbrev pub back-in : List ℕ
+  back-in = take 72 s ++ (q ++ drop m (drop 72 s))
 
   front : length (take 72 s) ≡ 72
   front = length-take-le 72 s h
 
-  pub back-long : 72 ≤ length back
-  back-long = omega (arith, length-append (take 72 s) (q ++ drop m (drop 72 s)), front)
+  pub in-long : 72 ≤ length back-in
+  in-long = omega (arith, length-append (take 72 s) (q ++ drop m (drop 72 s)), front)
 
-  rest : drop 72 back ≡ q ++ drop m (drop 72 s)
-  rest = drop-at (take 72 s) (q ++ drop m (drop 72 s)) 72 front
+  rest-in : drop 72 back-in ≡ q ++ drop m (drop 72 s)
+  rest-in = drop-at (take 72 s) (q ++ drop m (drop 72 s)) 72 front
 
-  head-kept : headRest back ≡ headRest s
-  head-kept =
+  head-in : headRest back-in ≡ headRest s
+  head-in =
       ap (take 64) (drop-append-le 8 (take 72 s) (q ++ drop m (drop 72 s)) (omega (arith, front))) ∙
       (take-append-le 64 (drop 8 (take 72 s)) (q ++ drop m (drop 72 s)) (rw length-drop (omega (arith, front))) ∙
       part-part s 0 72 8 64 (omega (arith, h)) (omega arith))
 
-  past-kept : length q ≡ m → m ≤ 4718592 → pastRows back ≡ pastRows s
-  past-kept e k =
+  past-in : length q ≡ m → m ≤ 4718592 → pastRows back-in ≡ pastRows s
+  past-in e k =
       let f : 4718592 ≡ length q + (4718592 - m) = omega (arith, e, k) in
       let g : m + (4718592 - m) ≡ 4718592 = omega (arith, k) in
-      sym (drop-drop 4718592 72 back) ∙
-      (ap (drop 4718592) rest ∙
+      sym (drop-drop 4718592 72 back-in) ∙
+      (ap (drop 4718592) rest-in ∙
       (ap (λ (j : ℕ). drop j (q ++ drop m (drop 72 s))) f ∙
       (drop-append-add q (drop m (drop 72 s)) (4718592 - m) ∙
       (drop-drop (4718592 - m) m (drop 72 s) ∙ (ap (λ (j : ℕ). drop j (drop 72 s)) g ∙ drop-drop 4718592 72 s)))))
@@ -111,15 +111,37 @@ module _ (s : List ℕ) (k : ℕ) (h : 72 ≤ length s) (small : k < 18446744073
   head-set = ap (take 64) (past 0)
 
 -- the bytes q given back, and the number of rows set to k
-pub written-back : (s q t : List ℕ) (m k : ℕ) (l : List FugueSpan) → (h : 72 ≤ length s) → length q ≡ m → m ≤ 4718592 → k * 72 ≤ m → t ≡ put 0 (bytesOf 8 k) (back s q m h) → rows k q ≡ l → Written l s t
-written-back s q t m k l h len most fits e f =
-    let b : 72 ≤ length (back s q m h) = back-long s q m h in
+pub written-in : (s q t : List ℕ) (m k : ℕ) (l : List FugueSpan) → (h : 72 ≤ length s) → length q ≡ m → m ≤ 4718592 → k * 72 ≤ m → t ≡ put 0 (bytesOf 8 k) (back-in s q m h) → rows k q ≡ l → WrittenIn l s t
+written-in s q t m k l h len most fits e f =
+    let b : 72 ≤ length (back-in s q m h) = in-long s q m h in
     let small : k < 18446744073709551616 = omega (arith, fits, most) in
     record {
-      list = ap spansOf e ∙ (rows-set (back s q m h) k b small ∙ (ap (rows k) (rest s q m h) ∙ (rows-append k q (drop m (drop 72 s)) (omega (arith, len, fits)) ∙ f)));
-      head = ap (λ (z : List ℕ). headRest z) e ∙ (head-set (back s q m h) k b small ∙ head-kept s q m h);
-      past = ap (λ (z : List ℕ). pastRows z) e ∙ (past (back s q m h) k b small 4718656 ∙ past-kept s q m h len most);
+      written = record {
+        list = ap spansOf e ∙ (rows-set (back-in s q m h) k b small ∙ (ap (rows k) (rest-in s q m h) ∙ (rows-append k q (drop m (drop 72 s)) (omega (arith, len, fits)) ∙ f)));
+        head = ap (λ (z : List ℕ). headRest z) e ∙ (head-set (back-in s q m h) k b small ∙ head-in s q m h);
+      };
+      past = ap (λ (z : List ℕ). pastRows z) e ∙ (past (back-in s q m h) k b small 4718656 ∙ past-in s q m h len most);
     }
+
+-- all after the header was lent
+module _ (s q : List ℕ) (h : 72 ≤ length s) where
+  abbrev pub back : List ℕ
+  back = take 72 s ++ (q ++ drop (length s - 72) (drop 72 s))
+
+  none : drop (length s - 72) (drop 72 s) ≡ []
+  none = drop-of-length-le (drop 72 s) {i = length s - 72} (rw length-drop (omega arith))
+
+  written-all : (t : List ℕ) (k : ℕ) (l : List FugueSpan) → k < 18446744073709551616 → t ≡ put 0 (bytesOf 8 k) back → rows k q ≡ l → Written l s t
+  written-all t k l small e f =
+      let m = length s - 72 in
+      let b : 72 ≤ length back = in-long s q m h in
+      record {
+        list = ap spansOf e ∙ (rows-set back k b small ∙ (ap (rows k) (rest-in s q m h ∙ (ap (λ (r : List ℕ). q ++ r) none ∙ append-nil q)) ∙ f));
+        head = ap (λ (z : List ℕ). headRest z) e ∙ (head-set back k b small ∙ head-in s q m h);
+      }
+
+pub written-back : (s q t : List ℕ) (k : ℕ) (l : List FugueSpan) → (h : 72 ≤ length s) → k < 18446744073709551616 → t ≡ put 0 (bytesOf 8 k) (back s q h) → rows k q ≡ l → Written l s t
+written-back s q t k l h small e f = written-all s q h t k l small e f
 
 -- ---- what a call leaves
 
@@ -128,7 +150,7 @@ module _ (code : ℕ) (l : List FugueSpan) (r : ℕ) (s : List ℕ) where
   kept-none z = ap (λ (b : Bool). cond b l (spansOf s)) (ne-eqb code 0 z)
 
   pub edited-refused : r ≡ code → (r ≡ 0 → ⊥) → Edited code l r s s
-  edited-refused e z = record { number = e; list = sym (kept-none (λ q. z (e ∙ q))); head = refl; past = refl; bytes = λ q. refl }
+  edited-refused e z = record { number = e; list = sym (kept-none (λ q. z (e ∙ q))); head = refl; bytes = λ q. refl }
 
   pub edited-done : (t : List ℕ) → r ≡ 0 → code ≡ 0 → Written l s t → Edited code l r s t
   edited-done t e z w =
@@ -136,7 +158,6 @@ module _ (code : ℕ) (l : List FugueSpan) (r : ℕ) (s : List ℕ) where
         number = e ∙ sym z;
         list = w .list ∙ sym (ap (λ (b : Bool). cond b l (spansOf s)) (eq-eqb code 0 z));
         head = w .head;
-        past = w .past;
         bytes = λ q. absurd (q z);
       }
 
@@ -144,6 +165,17 @@ pub edited-as : (c d : ℕ) (l m : List FugueSpan) (r : ℕ) (s t : List ℕ) �
 edited-as c d l m r s t e f w = subst (λ (x : List FugueSpan). Edited d x r s t) f (subst (λ (x : ℕ). Edited x l r s t) e w)
 
 -- two outcomes that meet the contract are the same answer and the same list, and a refused call leaves the same bytes
-pub edited-same : (code : ℕ) (l : List FugueSpan) (q r : ℕ) (s t u : List ℕ) → Edited code l q s t → Edited code l r s u → (q ≡ r) × ((spansOf t ≡ spansOf u) × ((headRest t ≡ headRest u) × ((pastRows t ≡ pastRows u) × ((q ≡ 0 → ⊥) → t ≡ u))))
+pub edited-same : (code : ℕ) (l : List FugueSpan) (q r : ℕ) (s t u : List ℕ) → Edited code l q s t → Edited code l r s u → (q ≡ r) × ((spansOf t ≡ spansOf u) × ((headRest t ≡ headRest u) × ((q ≡ 0 → ⊥) → t ≡ u)))
 edited-same code l q r s t u v w =
-    (v .number ∙ sym (w .number), (v .list ∙ sym (w .list), (v .head ∙ sym (w .head), (v .past ∙ sym (w .past), λ z. let n : code ≡ 0 → ⊥ = (λ e. z (v .number ∙ e)) in v .bytes n ∙ sym (w .bytes n)))))
+    (v .number ∙ sym (w .number), (v .list ∙ sym (w .list), (v .head ∙ sym (w .head), λ z. let n : code ≡ 0 → ⊥ = (λ e. z (v .number ∙ e)) in v .bytes n ∙ sym (w .bytes n))))
+
+-- the same, where the bytes past the rows that count are spoken of
+
+pub refused-in : (code : ℕ) (l : List FugueSpan) (r : ℕ) (s : List ℕ) → r ≡ code → (r ≡ 0 → ⊥) → EditedIn code l r s s
+refused-in code l r s e z = record { edited = edited-refused code l r s e z; past = refl }
+
+pub done-in : (code : ℕ) (l : List FugueSpan) (r : ℕ) (s t : List ℕ) → r ≡ 0 → code ≡ 0 → WrittenIn l s t → EditedIn code l r s t
+done-in code l r s t e z w = record { edited = edited-done code l r s t e z (w .written); past = w .past }
+
+pub edited-in : (c d : ℕ) (l m : List FugueSpan) (r : ℕ) (s t : List ℕ) → c ≡ d → l ≡ m → EditedIn c l r s t → EditedIn d m r s t
+edited-in c d l m r s t e f w = record { edited = edited-as c d l m r s t e f (w .edited); past = w .past }

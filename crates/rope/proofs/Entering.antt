@@ -23,11 +23,11 @@ use Rattle.rope.specs.Store.{count, room, spansOf, wellFormed, isState, 
 use Rattle.rope.specs.Codes.{unless, kept, insertCode, insertOf, askCode, clearOf}
 use Rattle.rope.specs.Spans.{AllOk, Stored, Ready}
 use Rattle.rope.specs.Plans.{planned, planRows, Can, Planned}
-use Rattle.rope.specs.Edits.{Written, Edited, insertNumber, insertList, insertFirst, Asked, Writable}
+use Rattle.rope.specs.Edits.{WrittenIn, EditedIn, insertNumber, insertList, insertFirst, Asked, Writable}
 use Rattle.rope.proofs.WellFormed.{formed-of}
 use Rattle.rope.proofs.States.{part, part-rest, part-spans, room-most, room-long, State, state-of, code-state, code-none}
 use Rattle.rope.proofs.Planning.{plan-length}
-use Rattle.rope.proofs.Editing.{rows-front, can-front, back, written-back, edited-refused, edited-done, edited-as}
+use Rattle.rope.proofs.Editing.{rows-front, can-front, back-in, written-in, refused-in, done-in, edited-in}
 use Rattle.rope.proofs.Admits.{code-span, code-first, code-room, code-done, ready-of}
 
 -- ---- a well formed store
@@ -85,8 +85,8 @@ module _ (s : List ℕ) (h : 72 ≤ length s) (e : ℕ) (ee : e ≡ 72 + room s 
   pub lent-rows : (n : ℕ) → n ≤ room s → rows n lent ≡ rows n (drop 72 s)
   lent-rows n k = rows-front n (e - 72) (drop 72 s) (omega (arith, bytes-are, k)) bytes-fit
 
-  pub lent-back : (q t : List ℕ) (k : ℕ) (l : List FugueSpan) → length q ≡ length lent → k ≤ room s → t ≡ put 0 (bytesOf 8 k) (back s q (e - 72) h) → rows k q ≡ l → Written l s t
-  lent-back q t k l len few et f = written-back s q t (e - 72) k l h (len ∙ lent-long) bytes-most (omega (arith, bytes-are, few)) et f
+  pub lent-back : (q t : List ℕ) (k : ℕ) (l : List FugueSpan) → length q ≡ length lent → k ≤ room s → t ≡ put 0 (bytesOf 8 k) (back-in s q (e - 72) h) → rows k q ≡ l → WrittenIn l s t
+  lent-back q t k l len few et f = written-in s q t (e - 72) k l h (len ∙ lent-long) bytes-most (omega (arith, bytes-are, few)) et f
 
 -- ---- a plan carried out
 
@@ -97,7 +97,7 @@ module _ (p : Plan) (n : ℕ) (s : List ℕ) (w : Writable p n s) (e : ℕ) (ee 
       let l = lent-long s (w .head) e ee in
       (omega (arith, b, l, w .fits), omega (arith, w .fits, room-most s), can-front p n (e - 72) (drop 72 s) (omega (arith, b, w .fits)) (bytes-fit s (w .head) e ee) (w .can), omega (arith, b, l, w .after))
 
-  pub write-done : (q t : List ℕ) (k : ℕ) → length q ≡ length (lent s (w .head) e ee) → rows (planRows p n) q ≡ planned p (rows n (lent s (w .head) e ee)) → k ≡ planRows p n → t ≡ put 0 (bytesOf 8 k) (back s q (e - 72) (w .head)) → Written (planned p (rows n (drop 72 s))) s t
+  pub write-done : (q t : List ℕ) (k : ℕ) → length q ≡ length (lent s (w .head) e ee) → rows (planRows p n) q ≡ planned p (rows n (lent s (w .head) e ee)) → k ≡ planRows p n → t ≡ put 0 (bytesOf 8 k) (back-in s q (e - 72) (w .head)) → WrittenIn (planned p (rows n (drop 72 s))) s t
   write-done q t k len f ek et =
       lent-back s (w .head) e ee q t k (planned p (rows n (drop 72 s))) len (omega (arith, ek, w .after)) et
       (ap (λ (m : ℕ). rows m q) ek ∙ (f ∙ ap (planned p) (lent-rows s (w .head) e ee n (w .fits))))
@@ -118,9 +118,9 @@ module _ (s : List ℕ) (at : ℕ) (x : FugueSpan) (st : isState s ≡ true) (fi
     first-is : k ≡ insertFirst (spansOf s) at x
     first-is = ek ∙ ap (λ (l : List FugueSpan). insertFirst l at x) (rows-are s st n en)
 
-    pub span-first : (k ≡ 0 → ⊥) → Edited code new k s s
+    pub span-first : (k ≡ 0 → ⊥) → EditedIn code new k s s
     span-first z =
-        edited-refused code new k s
+        refused-in code new k s
         (first-is ∙ sym (code-first (room s) (spansOf s) at x (state-formed s st n en) fine (λ e. z (first-is ∙ e))))
         z
 
@@ -135,9 +135,9 @@ module _ (s : List ℕ) (at : ℕ) (x : FugueSpan) (st : isState s ≡ true) (fi
         count-is : length new ≡ m
         count-is = ap length (sym new-is) ∙ (plan-length n (part s) p (pl .can) ∙ sym em)
 
-        pub span-full : most < m → Edited code new 10 s s
+        pub span-full : most < m → EditedIn code new 10 s s
         span-full h =
-            edited-refused code new 10 s
+            refused-in code new 10 s
             (sym (code-room (room s) (spansOf s) at x (state-formed s st n en) fine (sym first-is ∙ z) (omega (arith, h, er, count-is))))
             (λ e. omega (arith, e))
 
@@ -150,11 +150,11 @@ module _ (s : List ℕ) (at : ℕ) (x : FugueSpan) (st : isState s ≡ true) (fi
               after = omega (arith, h, er, em);
             }
 
-        pub span-done : m ≤ most → (t : List ℕ) → Written (planned p (rows n (drop 72 s))) s t → Edited code new 0 s t
+        pub span-done : m ≤ most → (t : List ℕ) → WrittenIn (planned p (rows n (drop 72 s))) s t → EditedIn code new 0 s t
         span-done h t w =
-            edited-done code new 0 s t refl
+            done-in code new 0 s t refl
             (code-done (room s) (spansOf s) at x (state-formed s st n en) fine (sym first-is ∙ z) (omega (arith, h, er, count-is)))
-            (subst (λ (l : List FugueSpan). Written l s t) (ap (λ (b : List ℕ). planned p (rows n b)) (sym (part-rest s)) ∙ new-is) w)
+            (subst (λ (l : List FugueSpan). WrittenIn l s t) (ap (λ (b : List ℕ). planned p (rows n b)) (sym (part-rest s)) ∙ new-is) w)
 
 -- ---- insert
 
@@ -202,32 +202,32 @@ module _ (s : List ℕ) (at : ℕ) (x : FugueSpan) where
   unfolding insertNumber
   number-state e = sym (ap (λ (b : Bool). unless b 15 (insertCode (room s) (spansOf s) at x)) e)
 
-  pub insert-none : isState s ≡ false → Edited (insertNumber s at x) (insertList s at x) 15 s s
-  insert-none e = edited-refused (insertNumber s at x) (insertList s at x) 15 s (number-none e) (λ z. omega (arith, z))
+  pub insert-none : isState s ≡ false → EditedIn (insertNumber s at x) (insertList s at x) 15 s s
+  insert-none e = refused-in (insertNumber s at x) (insertList s at x) 15 s (number-none e) (λ z. omega (arith, z))
 
   module _ (st : isState s ≡ true) (a : SpanAnswer) (ea : a ≡ answer Done Refused (spanCode x) x) where
-    pub insert-refused : (k : ℕ) → a ≡ Refused k → Edited (insertNumber s at x) (insertList s at x) k s s
+    pub insert-refused : (k : ℕ) → a ≡ Refused k → EditedIn (insertNumber s at x) (insertList s at x) k s s
     insert-refused k f =
         let w = said-refused a x ea k f in
-        edited-refused (insertNumber s at x) (insertList s at x) k s
+        refused-in (insertNumber s at x) (insertList s at x) k s
         (w .0 ∙ (sym (code-span (room s) (spansOf s) at x (state-formed s st (count s) refl) (w .1)) ∙ number-state st))
         (λ z. w .1 (sym (w .0) ∙ z))
 
     pub insert-asks : (y : FugueSpan) → a ≡ Done y → (isState s ≡ true) × (spanCode y ≡ 0)
     insert-asks y f = (st, said-done a x ea y f .1)
 
-    pub insert-done : (y : FugueSpan) → a ≡ Done y → (r : ℕ) (t : List ℕ) → Edited (insertCode (room s) (spansOf s) at y) (insertList s at y) r s t → Edited (insertNumber s at x) (insertList s at x) r s t
+    pub insert-done : (y : FugueSpan) → a ≡ Done y → (r : ℕ) (t : List ℕ) → EditedIn (insertCode (room s) (spansOf s) at y) (insertList s at y) r s t → EditedIn (insertNumber s at x) (insertList s at x) r s t
     insert-done y f r t v =
         let g = said-done a x ea y f .0 in
-        edited-as (insertCode (room s) (spansOf s) at y) (insertNumber s at x) (insertList s at y) (insertList s at x) r s t
+        edited-in (insertCode (room s) (spansOf s) at y) (insertNumber s at x) (insertList s at y) (insertList s at x) r s t
         (ap (insertCode (room s) (spansOf s) at) g ∙ number-state st) (ap (insertList s at) g) v
 
   -- on a well formed store: the number and the list of the call on spans
-  pub insert-is : isState s ≡ true → (r : ℕ) (t : List ℕ) → Edited (insertNumber s at x) (insertList s at x) r s t → (r ≡ insertOf (room s) (spansOf s) at x .0) × (spansOf t ≡ insertOf (room s) (spansOf s) at x .1)
+  pub insert-is : isState s ≡ true → (r : ℕ) (t : List ℕ) → EditedIn (insertNumber s at x) (insertList s at x) r s t → (r ≡ insertOf (room s) (spansOf s) at x .0) × (spansOf t ≡ insertOf (room s) (spansOf s) at x .1)
   unfolding insertOf
   insert-is st r t v =
       let e = sym (number-state st) in
-      (v .number ∙ e, v .list ∙ ap (λ (c : ℕ). kept c (insertList s at x) (spansOf s)) e)
+      (v .edited .number ∙ e, v .edited .list ∙ ap (λ (c : ℕ). kept c (insertList s at x) (spansOf s)) e)
 
 -- ---- clear_diff_status
 
@@ -235,8 +235,8 @@ module _ (s : List ℕ) where
   abbrev clear : List FugueSpan
   clear = join (clearUnits (expand (spansOf s)))
 
-  pub clear-refused : isState s ≡ false → Edited (stateCode s) clear 15 s s
-  clear-refused e = edited-refused (stateCode s) clear 15 s (sym (code-none s e)) (λ z. omega (arith, z))
+  pub clear-refused : isState s ≡ false → EditedIn (stateCode s) clear 15 s s
+  clear-refused e = refused-in (stateCode s) clear 15 s (sym (code-none s e)) (λ z. omega (arith, z))
 
   module _ (st : isState s ≡ true) (n : ℕ) (en : n ≡ count s) (e : ℕ) (ee : e ≡ 72 + room s * 72) where
     lent-spans : rows n (lent s (state-head s st) e ee) ≡ spansOf s
@@ -247,14 +247,14 @@ module _ (s : List ℕ) where
     clear-asks =
         (omega (arith, lent-long s (state-head s st) e ee, bytes-are s (state-head s st) e ee, state-fits s st n en), subst AllOk (sym lent-spans) (state-each s st n en))
 
-    pub clear-done : (q t : List ℕ) (k : ℕ) → length q ≡ length (lent s (state-head s st) e ee) → (rows k q ≡ join (clearUnits (expand (rows n (lent s (state-head s st) e ee))))) × (k ≤ n) → t ≡ put 0 (bytesOf 8 k) (back s q (e - 72) (state-head s st)) → Edited (stateCode s) clear 0 s t
+    pub clear-done : (q t : List ℕ) (k : ℕ) → length q ≡ length (lent s (state-head s st) e ee) → (rows k q ≡ join (clearUnits (expand (rows n (lent s (state-head s st) e ee))))) × (k ≤ n) → t ≡ put 0 (bytesOf 8 k) (back-in s q (e - 72) (state-head s st)) → EditedIn (stateCode s) clear 0 s t
     clear-done q t k len f et =
-        edited-done (stateCode s) clear 0 s t refl (code-state s st)
+        done-in (stateCode s) clear 0 s t refl (code-state s st)
         (lent-back s (state-head s st) e ee q t k clear len (omega (arith, f .1, state-fits s st n en)) et
         (f .0 ∙ ap (λ (l : List FugueSpan). join (clearUnits (expand l))) lent-spans))
 
-  pub clear-is : isState s ≡ true → (r : ℕ) (t : List ℕ) → Edited (stateCode s) clear r s t → (r ≡ clearOf (spansOf s) .0) × (spansOf t ≡ clearOf (spansOf s) .1)
+  pub clear-is : isState s ≡ true → (r : ℕ) (t : List ℕ) → EditedIn (stateCode s) clear r s t → (r ≡ clearOf (spansOf s) .0) × (spansOf t ≡ clearOf (spansOf s) .1)
   unfolding clearOf askCode
   clear-is st r t v =
       let e : stateCode s ≡ unless (wellFormed (spansOf s)) 15 0 = code-state s st ∙ sym (ap (λ (b : Bool). unless b 15 0) (state-formed s st (count s) refl)) in
-      (v .number ∙ e, v .list ∙ ap (λ (c : ℕ). kept c clear (spansOf s)) e)
+      (v .edited .number ∙ e, v .edited .list ∙ ap (λ (c : ℕ). kept c clear (spansOf s)) e)

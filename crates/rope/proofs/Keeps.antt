@@ -6,9 +6,9 @@ use mathlib.Core.List.{List, [], _∷_, _++_, append-assoc, append-nil}
 use mathlib.Core.Logic.{_⊎_, inl, inr}
 use native.Mathlib.Omega.{arith}
 use native.Mathlib.Nat.{zero-add}
-use lib.Dec.{leb, eqb}
+use lib.Dec.{eqb}
 use lib.ListN.{length, take, drop, length-append, take-append-drop}
-use borrow.Author.Tests.{le-leb, eq-eqb, eqb-true, eqb-false}
+use borrow.Author.Tests.{eqb-true, eqb-false}
 use Rattle.span.specs.declared.ids.Id.{Id}
 use Rattle.span.specs.declared.ids.OptId.{OptId}
 use Rattle.span.specs.declared.ids.OptId.the-variants.{Nothing, At}
@@ -17,19 +17,20 @@ use Rattle.span.specs.Ids.{incId, sameOpt}
 use Rattle.span.proofs.Same.{sameOpt-true, sameOpt-refl}
 use Rattle.span.specs.Status.{activated}
 use Rattle.span.specs.Span.{lenSpan, spanCode, idsOk, shift, leftOf, joinsSpan, mergedSpan}
-use Rattle.span.specs.Units.{tab, unitAt, unitsOf, expand, Apart, Joined, joinOn, join}
+use Rattle.span.specs.Units.{tab, unitAt, unitsOf, expand, Joined, joinOn, join}
 use Rattle.span.proofs.Unique.{AllUnits, join-joined, expand-join}
 use Rattle.span.proofs.ForRope.{units-length, span-units, list-units}
 use Rattle.store.proofs.Laws.{length-rows}
 use Rattle.rope.specs.Place.{memId, Distinct, front, behind, lastId, firstPast, putAt, scanPlace, withOrigins, originLeft, originRight, insertUnits}
-use Rattle.rope.specs.Store.{count, room, spansOf, touching, joinedRows, distinctIds, named, originsNamed, wellFormed, isState}
+use Rattle.rope.specs.Store.{count, room, spansOf, named, originsNamed, wellFormed, isState}
 use Rattle.rope.specs.Codes.{insertCode}
 use Rattle.rope.specs.Spans.{AllOk, Fresh}
 use Rattle.rope.specs.Edits.{insertNumber, insertList, Edited}
 use Rattle.rope.proofs.Lists.{or-left, or-right, or-false, and-true, mem-append}
 use Rattle.rope.proofs.Offsets.{tab-has}
-use Rattle.rope.proofs.Twice.{distinct-append, units-distinct, disjoint, of-distinct}
-use Rattle.rope.proofs.WellFormed.{formed-of}
+use Rattle.rope.proofs.Twice.{distinct-append, units-distinct, disjoint}
+use Rattle.rope.proofs.WellFormed.{formed-of, formed-back, few-rows}
+use Rattle.rope.proofs.Steps.{joined-ok}
 use Rattle.rope.proofs.States.{state-of, state-rows}
 use Rattle.rope.proofs.Streaming.{units-append}
 use Rattle.rope.proofs.Admits.{admitted, formed-code, fine-code, rest-code}
@@ -150,29 +151,19 @@ join-origins (u ∷ l) us e =
     let b = and-true (named (u .«origin_left») us) (named (u .«origin_right») us) (a .0) in
     on-origins u (join l) us (b .0) (b .1) (join-origins l us (a .1))
 
-apart-touch : (s : FugueSpan) (l : List FugueSpan) → Apart s l → touching s l ≡ false
-unfolding touching Apart
-apart-touch s [] a = refl
-apart-touch s (t ∷ l) a = a
-
-rows-joined : (l : List FugueSpan) → Joined l → joinedRows l ≡ true
-unfolding joinedRows Joined
-rows-joined [] j = refl
-rows-joined (s ∷ l) j =
-    ap₂ (λ (a b : Bool). cond a (cond b false (joinedRows l)) false) (eq-eqb (spanCode s) 0 (j .0)) (apart-touch s l (j .1 .0)) ∙ rows-joined l (j .1 .1)
-
 pub join-formed : (us : List FugueSpan) → UnitsOk us → wellFormed (join us) ≡ true
-unfolding wellFormed
 join-formed us w =
     let x : expand (join us) ≡ us = expand-join us (w .each) in
-    all (joinedRows (join us)) (leb (length (expand (join us))) 65536) (distinctIds (expand (join us))) (originsNamed (join us) (expand (join us)))
-    (rows-joined (join us) (join-joined us (w .each)))
-    (ap (λ (l : List FugueSpan). leb (length l) 65536) x ∙ le-leb (length us) 65536 (w .few))
-    (ap distinctIds x ∙ of-distinct us (w .distinct))
-    (ap (originsNamed (join us)) x ∙ join-origins us us (w .origins))
-  where
-    all : (a b c d : Bool) → a ≡ true → b ≡ true → c ≡ true → d ≡ true → (a && (b && (c && d))) ≡ true
-    all a b c d p q r s = rw (p, q, r, s)
+    let j : Joined (join us) = join-joined us (w .each) in
+    formed-back (join us)
+    (record {
+      joined = j;
+      each = joined-ok (join us) j;
+      units = omega (arith, ap length x, w .few);
+      few = omega (arith, few-rows (join us) (joined-ok (join us) j), ap length x, w .few);
+      distinct = subst Distinct (sym x) (w .distinct);
+      origins = ap (originsNamed (join us)) x ∙ join-origins us us (w .origins);
+    })
 
 -- ---- new units in the list
 

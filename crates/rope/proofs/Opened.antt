@@ -1,12 +1,10 @@
 -- a store that was opened is well formed, and its list is empty or the placeholder
-use Prim.Native.Nat.{ℕ, zero, suc, _+_, _-_, _*_, _^_, _<_, _≤_}
-use mathlib.Core.Path.{_≡_, refl, sym, ap, ap₂, _∙_}
-use mathlib.Core.Bool.{Bool, true, false, _&&_, cond}
-use mathlib.Core.List.{List, [], _∷_, _++_}
+use Prim.Native.Nat.{ℕ, _+_, _<_, _≤_}
+use mathlib.Core.Path.{_≡_, refl, ap, _∙_}
+use mathlib.Core.Bool.{Bool, true, false, cond}
+use mathlib.Core.List.{List, [], _∷_}
 use native.Mathlib.Omega.{arith}
-use lib.Dec.{leb}
-use lib.IntN.{pos}
-use lib.ListN.{length, set, take, drop}
+use lib.ListN.{length, set, drop}
 use borrow.Author.Tests.{le-leb, eq-eqb}
 use Rattle.words.specs.Le.{le, bytesOf, put}
 use Rattle.words.proofs.Puts.{length-put, part-before}
@@ -19,7 +17,7 @@ use Rattle.span.proofs.UnitLaws.{span-of}
 use Rattle.span.proofs.Views.{len-unknown, formed-unknown}
 use Rattle.store.specs.Row.{rows, wordsOf, wordBytes, rowBytes, flagsOf, Fitting, Signed}
 use Rattle.store.proofs.Laws.{rows-put}
-use Rattle.store.specs.Header.{headerWords, headerBytes}
+use Rattle.store.specs.Header.{headerBytes}
 use Rattle.rope.specs.Store.{count, room, spansOf, touching, joinedRows, named, distinctIds, originsNamed, wellFormed, isState}
 use Rattle.rope.specs.Query.{placeholder}
 use Rattle.rope.specs.Spans.{holdsAny, apartRows}

@@ -1,8 +1,8 @@
 -- the real id at a visible position, row by row
-use Prim.Native.Nat.{ℕ, zero, suc, _+_, _-_, _*_, _<_, _≤_}
+use Prim.Native.Nat.{ℕ, _+_, _-_, _*_, _<_, _≤_}
 use mathlib.Core.Path.{_≡_, refl, sym, ap, ap₂, _∙_}
 use mathlib.Core.Bool.{Bool, true, false, cond}
-use mathlib.Core.List.{List, [], _∷_}
+use mathlib.Core.List.{List}
 use native.Mathlib.Omega.{arith}
 use lib.Dec.{ltb}
 use lib.ListN.{length, drop}
@@ -17,9 +17,8 @@ use Rattle.span.specs.Span.{lenSpan, spanCode, partSpan, shift, sliceSpanCode, 
 use Rattle.span.proofs.Unique.{in-range}
 use Rattle.span.proofs.UnitLaws.{part-length}
 use Rattle.store.specs.Row.{rows, rowAt}
-use Rattle.rope.specs.declared.query.RealAnswer.{RealAnswer}
 use Rattle.rope.specs.declared.query.RealAnswer.the-variants as Real
-use Rattle.rope.specs.Query.{RealSpan, Nothing, At, realSpanAt}
+use Rattle.rope.specs.Query.{Nothing, At, realSpanAt}
 use Rattle.rope.specs.Entries.{realSaid}
 use Rattle.rope.specs.Spans.{Stored}
 use Rattle.rope.proofs.Rights.{row-drop, row-none, row-ok}

@@ -1,15 +1,14 @@
 -- the bytes of a store: what its check and its openings say of them
-use Prim.Native.Nat.{ℕ, zero, suc, _+_, _-_, _*_, _/_, _<_, _≤_, min}
+use Prim.Native.Nat.{ℕ, zero, suc, _-_, _*_, _<_, _≤_}
 use mathlib.Core.Path.{_≡_, refl, sym, ap, ap₂, _∙_}
-use mathlib.Core.Bool.{Bool, true, false, not, _&&_, cond, true≢false, false≢true}
-use mathlib.Core.List.{List, [], _∷_, _++_}
+use mathlib.Core.Bool.{Bool, true, false, not, _&&_, cond}
+use mathlib.Core.List.{List}
 use native.Mathlib.Omega.{arith}
 use lib.Dec.{leb, eqb}
 use lib.ListN.{length, take, drop, length-drop}
 use lib.Seq.{take-all}
 use borrow.Author.Tests.{leb-true, le-leb, lt-leb, eq-eqb, ne-eqb}
 use Rattle.words.specs.Le.{put}
-use Rattle.span.specs.declared.span.FugueSpan.{FugueSpan}
 use Rattle.span.specs.Answer.{answer}
 use Rattle.span.proofs.AnswerLaws.{is-done, is-refused}
 use Rattle.store.specs.Row.{rows, rowBytes}
@@ -17,7 +16,7 @@ use Rattle.store.specs.Header.{headerBytes}
 use Rattle.rope.specs.Limits.{fits}
 use Rattle.rope.specs.Store.{count, room, spansOf, wellFormed, isState, stateCode}
 use Rattle.rope.specs.Query.{placeholder}
-use Rattle.rope.specs.Codes.{unless, kept, placeholderCode}
+use Rattle.rope.specs.Codes.{kept, placeholderCode}
 use Rattle.rope.specs.Entries.{openCode, openBytes, openWithCode, openWithBytes}
 use Rattle.rope.specs.Spans.{Stored}
 use Rattle.rope.proofs.Lists.{and-true}

@@ -1,11 +1,10 @@
 -- no span has an id of one before it: no id stands twice
-use Prim.Native.Nat.{ℕ, zero, suc, _+_, _-_, _*_, _<_, _≤_}
+use Prim.Native.Nat.{ℕ, zero, suc, _+_, _*_, _<_, _≤_}
 use mathlib.Core.Path.{_≡_, refl, sym, ap, ap₂, subst, _∙_}
-use mathlib.Core.Bool.{Bool, true, false, not, _&&_, _||_, cond, true≢false, false≢true}
+use mathlib.Core.Bool.{Bool, true, false, not, _&&_, cond, true≢false, false≢true}
 use mathlib.Core.List.{List, [], _∷_, _++_, append-assoc, append-nil}
 use native.Mathlib.Omega.{arith}
-use native.Mathlib.Numerals.{add-one}
-use lib.ListN.{length, take, drop}
+use lib.ListN.{take, drop}
 use borrow.Author.Tests.{not-true}
 use Rattle.span.specs.declared.ids.OptId.{OptId}
 use Rattle.span.specs.declared.ids.OptId.the-variants.{Nothing, At}
@@ -13,7 +12,7 @@ use Rattle.span.specs.declared.span.FugueSpan.{FugueSpan}
 use Rattle.span.specs.Ids.{incId, sameOpt}
 use Rattle.span.proofs.Same.{sameOpt-refl}
 use Rattle.span.specs.Span.{lenSpan, spanCode}
-use Rattle.span.proofs.SpanLaws.{SpanOk, span-ok}
+use Rattle.span.proofs.SpanLaws.{span-ok}
 use Rattle.span.specs.Units.{tab, unitAt, unitsOf, expand}
 use Rattle.span.proofs.ForRope.{expand-append}
 use Rattle.store.specs.Row.{rows, rowAt}
@@ -21,11 +20,11 @@ use Rattle.rope.specs.declared.find.Offset.{Offset}
 use Rattle.rope.specs.declared.find.Offset.the-variants as Off
 use Rattle.rope.specs.Place.{memId, Distinct}
 use Rattle.rope.specs.Store.{distinctIds}
-use Rattle.rope.specs.Spans.{offsetOf, covered, AllOk, Fresh, holdsAny, apartRows}
+use Rattle.rope.specs.Spans.{offsetOf, AllOk, Fresh, holdsAny, apartRows}
 use Rattle.rope.proofs.Offsets.{unit-id, unit-off, not-unit, inc-ne, covers-units}
 use Rattle.rope.proofs.Lists.{or-left, or-right, or-both, and-true, mem-append, distinct-apart}
 use Rattle.rope.proofs.Rights.{row-drop, row-take, row-none}
-use Rattle.rope.proofs.Apart.{fresh-of, covered-unit, Shared, shared-of}
+use Rattle.rope.proofs.Apart.{fresh-of, covered-unit, shared-of}
 
 pub rows-take : (i n : ℕ) (s : List ℕ) → i ≤ n → rows i s ≡ take i (rows n s)
 unfolding rows

@@ -1,25 +1,24 @@
 -- what a well formed list is, fact by fact, and the check's order of asking
-use Prim.Native.Nat.{ℕ, zero, suc, _+_, _-_, _*_, _<_, _≤_}
+use Prim.Native.Nat.{ℕ, _+_, _*_, _<_, _≤_}
 use mathlib.Core.Path.{_≡_, refl, sym, ap, ap₂, _∙_}
-use mathlib.Core.Bool.{Bool, true, false, _&&_, cond, true≢false, false≢true}
-use mathlib.Core.List.{List, [], _∷_, _++_}
+use mathlib.Core.Bool.{Bool, true, false, _&&_, cond}
+use mathlib.Core.List.{List, [], _∷_}
 use native.Mathlib.Omega.{arith}
 use lib.Dec.{leb}
-use lib.ListN.{length, drop}
+use lib.ListN.{length}
 use borrow.Author.Tests.{leb-true, le-leb, lt-leb, eq-eqb}
 use Rattle.span.specs.declared.ids.Id.{Id}
 use Rattle.span.specs.declared.ids.OptId.{OptId}
-use Rattle.span.specs.declared.ids.OptId.the-variants.{Nothing, At}
+use Rattle.span.specs.declared.ids.OptId.the-variants.{At}
 use Rattle.span.specs.declared.span.FugueSpan.{FugueSpan}
 use Rattle.span.specs.Span.{lenSpan, spanCode}
 use Rattle.span.proofs.SpanLaws.{span-ok}
 use Rattle.span.proofs.Views.{len-pos}
 use Rattle.span.specs.Units.{expand, Apart, Joined}
 use Rattle.store.specs.Row.{rows}
-use Rattle.store.proofs.Laws.{length-rows}
 use Rattle.rope.specs.Place.{memId, Distinct}
 use Rattle.rope.specs.Store.{touching, joinedRows, distinctIds, named, originsNamed, wellFormed}
-use Rattle.rope.specs.Spans.{AllOk, Held, Named, AllNamed, Good, apartRows}
+use Rattle.rope.specs.Spans.{AllOk, Named, AllNamed, Good, apartRows}
 use Rattle.rope.proofs.Lists.{and-true}
 use Rattle.rope.proofs.Steps.{joined-ok}
 use Rattle.rope.proofs.Checks.{joined-rows}

@@ -22,23 +22,29 @@ use Rattle.rope.specs.Plans.{planRows, Can}
 abbrev pub headRest : List ℕ → List ℕ
 headRest s = take 64 (drop 8 s)
 
--- the bytes past the rows that count: a longer room counts as ROWS rows, and the rest of it is never touched
-abbrev pub pastRows : List ℕ → List ℕ
-pastRows s = drop (72 + ROWS * 72) s
-
 -- t is s with the list l: the header counts its rows, and is else as it was. The room past the last row is no part of the store.
 pub record Written (l : List FugueSpan) (s t : List ℕ) : Type 0 where
   pub list : spansOf t ≡ l
   pub head : headRest t ≡ headRest s
-  pub past : pastRows t ≡ pastRows s
 
 -- A call whose number is `code` and whose list is `l` answers r and leaves t. A refused call keeps every byte.
 pub record Edited (code : ℕ) (l : List FugueSpan) (r : ℕ) (s t : List ℕ) : Type 0 where
   pub number : r ≡ code
   pub list : spansOf t ≡ kept code l (spansOf s)
   pub head : headRest t ≡ headRest s
-  pub past : pastRows t ≡ pastRows s
   pub bytes : (code ≡ 0 → ⊥) → t ≡ s
+
+-- the bytes past the rows that count: a longer room counts as ROWS rows, and the rest of it is never touched
+abbrev pub pastRows : List ℕ → List ℕ
+pastRows s = drop (72 + ROWS * 72) s
+
+pub record WrittenIn (l : List FugueSpan) (s t : List ℕ) : Type 0 where
+  pub written : Written l s t
+  pub past : pastRows t ≡ pastRows s
+
+pub record EditedIn (code : ℕ) (l : List FugueSpan) (r : ℕ) (s t : List ℕ) : Type 0 where
+  pub edited : Edited code l r s t
+  pub past : pastRows t ≡ pastRows s
 
 -- ---------------------------------------------------------------- insert
 

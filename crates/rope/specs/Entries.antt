@@ -1,6 +1,5 @@
 -- What the entries that open a store or ask it a question answer and leave, on the lent bytes. Assumes nothing.
 use Prim.Native.Nat.{ℕ}
-use mathlib.Core.Bool.{cond}
 use mathlib.Core.List.{List}
 use lib.Dec.{leb}
 use lib.ListN.{length}

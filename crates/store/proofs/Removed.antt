@@ -1,14 +1,14 @@
 -- rows that moved down over rows that go
-use mathlib.Core.Path.{_≡_, refl, sym, ap, ap₂, _∙_}
-use mathlib.Core.List.{List, [], _∷_, _++_}
-use Prim.Native.Nat.{ℕ, zero, suc, _+_, _-_, _*_, _≤_, _<_}
+use mathlib.Core.Path.{_≡_, sym, ap, ap₂, _∙_}
+use mathlib.Core.List.{List, _++_}
+use Prim.Native.Nat.{ℕ, _+_, _-_, _*_, _≤_, _<_}
 use native.Mathlib.Omega.{arith}
 use lib.ListN.{length, getD, take, drop, length-drop, take-append-drop}
 use lib.Seq.{ext-getD, getD-take, getD-drop, length-take-le}
 use Rattle.words.specs.Le.{put}
 use Rattle.words.proofs.Puts.{part-before, part-inside, part-part}
 use Rattle.span.specs.declared.span.FugueSpan.{FugueSpan}
-use Rattle.store.specs.Row.{rows, rowAt, wordsAt, spanOf}
+use Rattle.store.specs.Row.{rows, rowAt, spanOf}
 use Rattle.store.proofs.Laws.{rows-at, length-rows, words-moved}
 
 module _ (s : List ℕ) (n i k : ℕ) (room : n * 72 ≤ length s) (hi : i + k ≤ n) where

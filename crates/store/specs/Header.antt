@@ -1,7 +1,7 @@
 -- A store in lent bytes: a header of one row's width, whose first eight bytes hold the number of rows, and then the rows.
 -- Assumes nothing.
 use Prim.Native.Nat.{ℕ, _-_, _/_, min}
-use mathlib.Core.List.{List, _++_}
+use mathlib.Core.List.{List}
 use lib.ListN.{length, take, drop}
 use Rattle.words.specs.Le.{le}
 use Rattle.span.specs.declared.span.FugueSpan.{FugueSpan}

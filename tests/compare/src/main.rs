@@ -3,6 +3,7 @@
 //!
 //!     compare random [SCRIPTS [SEED [CALLS]]]      random rope scripts
 //!     compare short ALPHABET [DEPTH [PEERS]]       every short rope script (`ropes/short.rs`)
+//!     compare stores [SCRIPTS [SEED [CALLS]]]      calls on well-formed stores that no call makes; the Rust is not asked
 //!     compare file FILE                            the rope scripts of a file
 //!     compare histories [SCRIPTS [SEED [CALLS]]]   random histories
 //!     compare small [DEPTH [PEERS]]                every small history (`histories/small.rs`)
@@ -26,7 +27,7 @@ mod ropes;
 mod row;
 mod simpler;
 
-const USAGE: &str = "usage: compare random [SCRIPTS [SEED [CALLS]]] | short calls|places|deltas [DEPTH [PEERS]] | file FILE \
+const USAGE: &str = "usage: compare random [SCRIPTS [SEED [CALLS]]] | short calls|places|deltas [DEPTH [PEERS]] | stores [SCRIPTS [SEED [CALLS]]] | file FILE \
     | histories [SCRIPTS [SEED [CALLS]]] | small [DEPTH [PEERS]] | faults";
 
 fn random(scripts: u64, seed: u64, calls: usize) -> bool {
@@ -41,6 +42,12 @@ fn short(alphabet: &str, depth: usize, peers: u64) -> bool {
     for opening in [Call::Empty, Call::Placeholder(2)] {
         ropes::short::scripts(alphabet, opening, depth, peers, &mut |s| batch.take(s));
     }
+    batch.report()
+}
+
+fn stores(scripts: u64, seed: u64, calls: usize) -> bool {
+    let mut batch = Batch::new(|_| false);
+    (seed..seed + scripts).all(|s| batch.take(ropes::stores::script(s, calls)));
     batch.report()
 }
 
@@ -78,7 +85,7 @@ fn faults() -> bool {
             }
         }
     };
-    tries(pretend::FAULTS, &|| random(300, 1, 40));
+    tries(pretend::FAULTS, &|| random(500, 1, 40));
     tries(pretend::HISTORY, &|| histories(100, 1, 25));
     good
 }
@@ -104,6 +111,7 @@ fn main() {
             match words[..] {
                 ["random", ..] => random(number(1, 2000), number(2, 1), number(3, 50) as usize),
                 ["short", name, ..] => short(name, number(2, 3) as usize, number(3, 3)),
+                ["stores", ..] => stores(number(1, 2000), number(2, 1), number(3, 10) as usize),
                 ["file", path] => file(path),
                 ["faults"] => faults(),
                 _ => panic!("{USAGE}"),

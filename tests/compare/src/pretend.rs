@@ -2,6 +2,7 @@
 //! It shows that the tests bite: each fault must be found, and no fault must be found where there is none.
 use crate::answer;
 use crate::histories::judge::{Ask, Reading};
+use crate::ropes::{row_of, units_of_row};
 use crate::row::{well_formed, Row};
 use model01::history::Body;
 use model01::rope01::*;
@@ -13,6 +14,11 @@ use std::io::{Read, Write};
 pub const FAULTS: &[&str] = &[
     "cursor",  // an insert goes to the cursor, without a scan
     "peers",   // the scan puts larger peers first
+    "holding", // the scan never holds
+    "keeps",   // the scan never stops holding
+    "rights",  // the scan compares origin rights in the place of parent rights
+    "equal",   // the scan does not stop at a larger peer with an equal parent right
+    "scanned", // the scan stops at units whose origin left it has scanned
     "visible", // origin right is the first visible unit
     "real",    // a delete writes the real id anew
     "pieces",  // a reversed delete lists its units in list order
@@ -76,16 +82,6 @@ pub fn run(fault: &str) {
     }
     out.flush().expect("the answers are written");
     std::process::exit(i32::from(fault == "ends"));
-}
-
-fn row_of((u, _): &(Unit, usize)) -> Row {
-    Row { id: u.id, lamport: u.lamport, real: u.real, status: u.status, diff: u.diff, left: u.ol, right: u.or, chunk: u.chunk }
-}
-
-fn units_of_row(r: &Row) -> Vec<Unit> {
-    let first =
-        Unit { id: r.id, lamport: r.lamport, real: r.real, status: r.status, diff: r.diff, ol: r.left, or: r.right, chunk: r.chunk };
-    units_of(&first, r.len().unwrap_or(0) as usize)
 }
 
 impl Pretend {
@@ -232,12 +228,8 @@ impl Pretend {
                 }
                 let (at, _, _) = before.place(pos, peer);
                 let len = list.units.len() - before.units.len();
-                let other = match self.fault.as_str() {
-                    "cursor" if pos == 0 => 0,
-                    "cursor" => 1 + visible_at(&before, pos - 1),
-                    "peers" => before.place(pos, u64::MAX - 1 - peer).0,
-                    _ => at,
-                };
+                let other = scan(&before, pos, peer, &self.fault);
+                assert!(self.fault != "none" || other == at, "the scan is the reading's");
                 let new: Vec<Unit> = list.units.drain(at..at + len).collect();
                 list.units.splice(other..other, new);
                 if self.has("visible") {
@@ -290,6 +282,49 @@ impl Pretend {
         }
         reply.show()
     }
+}
+
+/// Where an insert goes: 01's scan, with a fault in it.
+fn scan(list: &Rope01, pos: usize, peer: u64, fault: &str) -> usize {
+    let units = &list.units;
+    let cursor = if pos == 0 { 0 } else { 1 + visible_at(list, pos - 1) };
+    let left = (pos > 0).then(|| units[cursor - 1].id);
+    let end = (cursor..units.len()).find(|i| !units[*i].status.0).unwrap_or(units.len());
+    let right = units.get(end).map(|u| u.id);
+    // the place of a parent right; none is after all
+    let parent = |right: Option<Id>, left: Option<Id>| {
+        let at = right.and_then(|r| list.find(r)).unwrap_or(units.len());
+        if fault == "rights" || units.get(at).is_some_and(|u| u.ol == left) {
+            at
+        } else {
+            units.len()
+        }
+    };
+    let ours = parent(right, left);
+    let (mut place, mut holding) = (cursor, false);
+    for i in cursor..if fault == "cursor" { cursor } else { end } {
+        let u = &units[i];
+        let scanned = units[cursor..i].iter().any(|s| Some(s.id) == u.ol) && fault != "scanned";
+        if u.ol != left && !scanned {
+            break;
+        }
+        if u.ol == left {
+            let theirs = parent(u.or, u.ol);
+            let larger = if fault == "peers" { u.id.0 < peer } else { u.id.0 > peer };
+            if u.or == right || theirs == ours {
+                if larger && (u.or == right || fault != "equal") {
+                    break;
+                }
+                holding = holding && fault == "keeps";
+            } else {
+                holding = (theirs < ours && fault != "holding") || (holding && fault == "keeps");
+            }
+        }
+        if !holding {
+            place = i + 1;
+        }
+    }
+    place
 }
 
 /// The index of the visible unit at a position.

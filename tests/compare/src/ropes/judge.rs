@@ -16,14 +16,10 @@ use rope::RopeDriver;
 /// `model01`'s rope with 01's cuts and with the refusals that come from what is lent.
 pub struct Reading {
     pub list: Rope01,
-    limits: Limits,
+    pub limits: Limits,
 }
 
 impl Reading {
-    pub fn new(limits: Limits) -> Reading {
-        Reading { list: Rope01::default(), limits }
-    }
-
     pub fn call(&mut self, call: &Call) -> Answer {
         let before = self.list.clone();
         let plain = self.list.call(call);
@@ -77,12 +73,11 @@ pub fn uncut(answer: &Answer) -> Answer {
     }
 }
 
-pub fn judge(limits: Limits, asked: &[Call], said: &[Said], variants: &[Named], tally: &mut Tally) -> Result<(), Difference> {
+pub fn judge(mut reading: Reading, asked: &[Call], said: &[Said], variants: &[Named], tally: &mut Tally) -> Result<(), Difference> {
     let mut first: Option<Difference> = None;
     let differ =
         |line: usize, from: &str, lane: String, want: &Answer| Some(Difference { line, from: from.into(), lane, want: show_answer(want) });
     // what the reading says, and what the program said as far as it can be read
-    let mut reading = Reading::new(limits);
     let mut answers = Vec::new();
     for (line, call) in asked.iter().enumerate() {
         let want = reading.call(call);
@@ -123,7 +118,7 @@ pub fn judge(limits: Limits, asked: &[Call], said: &[Said], variants: &[Named], 
         tally.reading += 1;
         tally.refused += u64::from(matches!(want, Answer::Refused(_)));
         // the list that an update refused with 11 would make is not built here: in a small room it may be 10
-        let either = *want == Answer::Refused(11) && *got == Answer::Refused(10) && limits.room < AMPLE.room;
+        let either = *want == Answer::Refused(11) && *got == Answer::Refused(10) && reading.limits.room < AMPLE.room;
         if want != got && !either {
             first = differ(line, "the reading of 01", show_answer(got), want);
         }

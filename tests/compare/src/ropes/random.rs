@@ -19,36 +19,47 @@ struct Temper {
     text: u32,
 }
 
-pub fn script(seed: u64, calls: usize) -> Script {
-    let mut random = Random::new(seed);
+fn temper(random: &mut Random) -> Temper {
     let all = [1, 2, 3, 4, 5, 0, 1 << 32, u64::MAX - 1];
     let reach = random.pick(&[3, 5, 8]);
-    let peers = (0..2 + random.below(4)).map(|_| random.pick(&all[..reach])).collect();
-    let mut temper = Temper {
-        peers,
+    Temper {
+        peers: (0..2 + random.below(4)).map(|_| random.pick(&all[..reach])).collect(),
         inserts: 3 + random.below(4),
         deletes: random.below(3),
         diffs: random.below(6),
         longest: random.pick(&[1, 2, 6, 6, 40]),
         typing: None,
         text: 0,
-    };
-    let limits = Limits {
+    }
+}
+
+pub fn limits(random: &mut Random) -> Limits {
+    Limits {
         room: if random.one_in(4) { 1 + random.below(9) } else { AMPLE.room },
         out: if random.one_in(8) { random.below(4) } else { AMPLE.out },
-    };
-    let mut reading = Reading::new(limits);
+    }
+}
+
+pub fn script(seed: u64, calls: usize) -> Script {
+    let mut random = Random::new(seed);
+    let limits = limits(&mut random);
+    let mut reading = Reading { list: Rope01::default(), limits };
+    let opening = if random.one_in(3) { Call::Placeholder(1 + random.below(8) as u32) } else { Call::Empty };
+    reading.call(&opening);
+    let more = more(&mut random, &mut reading, calls - 1);
+    Script { limits, rows: vec![], calls: [vec![opening], more].concat(), last_only: false }
+}
+
+/// Random calls on an open store.
+pub fn more(random: &mut Random, reading: &mut Reading, calls: usize) -> Vec<Call> {
+    let mut temper = temper(random);
     let mut out = Vec::new();
-    for i in 0..calls {
-        let call = match i {
-            0 if random.one_in(3) => Call::Placeholder(1 + random.below(8) as u32),
-            0 => Call::Empty,
-            _ => temper.call(&mut random, &reading.list),
-        };
+    for _ in 0..calls {
+        let call = temper.call(random, &reading.list);
         reading.call(&call);
         out.push(call);
     }
-    Script { limits, calls: out, last_only: false }
+    out
 }
 
 impl Temper {

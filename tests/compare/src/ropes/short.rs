@@ -38,7 +38,7 @@ fn longer(
     peers: u64,
     sink: &mut dyn FnMut(Script) -> bool,
 ) -> bool {
-    if !sink(Script { limits: AMPLE, calls: script.clone(), last_only: true }) {
+    if !sink(Script { limits: AMPLE, rows: vec![], calls: script.clone(), last_only: true }) {
         return false;
     }
     if depth == 0 {

@@ -13,7 +13,7 @@ use Rattle.rope.proofs.apply.move_first.Reads as reads
 use Rattle.rope.proofs.apply.move_first.Lts as lts
 use Rattle.store.proofs.get_row.Reads as get-row-reads
 use Rattle.store.proofs.put_row.Reads as put-row-reads
-use Rattle.store.proofs.remove.remove_row.Reads as remove-row-reads
+use Rattle.store.proofs.remove_rows.Reads as remove-rows-reads
 
 get-row-requires : tie.Need-get-row-requires
 get-row-requires c κs = search needs
@@ -21,8 +21,8 @@ get-row-requires c κs = search needs
 put-row-requires : tie.Need-put-row-requires
 put-row-requires c κs = search needs
 
-remove-row-requires : tie.Need-remove-row-requires
-remove-row-requires c κs = search needs
+remove-rows-requires : tie.Need-remove-rows-requires
+remove-rows-requires c κs = search needs
 
 same-length : tie.Need-same-length
 same-length c = search needs
@@ -31,7 +31,7 @@ same-length-2 : tie.Need-same-length-2
 same-length-2 c = search needs
 
 returns : tie.Need-returns
-returns c = let e = c .before .before .before .before .before .before .before .before .before .before .before .before .before in let a = e .args in moved-one (a .w) (a .m) (a .s .now) (a .q .now) _ _ (c .before .before .before .before .before .before .before .get-row .result) (c .before .before .before .before .before .before .before .before .before .before .if1 .taken) (e .pre .0) (c .before .before .before .before .before .before .before .get-row .ensures) (c .before .before .before .before .before .before .put-row .ensures) (c .before .before .remove-row .ensures)
+returns c = let e = c .before .before .before .before .before .before .before .before .before .before .before .before .before in let a = e .args in moved-one (a .w) (a .m) (a .s .now) (a .q .now) _ _ (c .before .before .before .before .before .before .before .get-row .result) (c .before .before .before .before .before .before .before .before .before .before .if1 .taken) (e .pre .0) (c .before .before .before .before .before .before .before .get-row .ensures) (c .before .before .before .before .before .before .put-row .ensures) (c .before .before .remove-rows .ensures)
 
 returns-2 : tie.Need-returns-2
 returns-2 c = let a = c .before .before .before .args in moved-none (a .w) (a .m) (a .s .now) (a .q .now) (omega (arith, c .if1 .left))
@@ -42,7 +42,7 @@ move-first-spec =
     (tie.spec
     get-row-requires
     put-row-requires
-    remove-row-requires
+    remove-rows-requires
     same-length
     same-length-2
     returns

@@ -1,8 +1,8 @@
-use Rattle.store.specs.Row.{rows, rowAt}
+use Rattle.store.specs.Row.{rows}
 use Rattle.span.specs.declared.span.FugueSpan.{FugueSpan}
 use lib.ListN.{take, drop}
 use native.Mathlib.Omega.{arith}
-use Prim.Native.Nat.{_+_, _-_, _*_, _≤_}
+use Prim.Native.Nat.{_-_, _≤_}
 use mathlib.Core.List.{[]}
 use mathlib.Core.Bool.{true, false}
 use mathlib.Core.Path.{_≡_, refl, sym, ap, _∙_}

@@ -1,11 +1,11 @@
 use lib.Dec.{eqb}
-use Rattle.store.specs.Row.{rows, rowAt}
+use Rattle.store.specs.Row.{rows}
 use Rattle.span.specs.Span.{spanCode}
 use Rattle.span.specs.declared.span.FugueSpan.{FugueSpan}
 use borrow.Author.Tests.{eq-eqb, ne-eqb}
 use lib.ListN.{drop}
 use native.Mathlib.Omega.{arith}
-use Prim.Native.Nat.{_+_, _-_, _*_, _≤_}
+use Prim.Native.Nat.{_+_, _-_, _≤_}
 use mathlib.Core.Bool.{true, false}
 use mathlib.Core.Path.{_≡_, refl, sym, ap, _∙_}
 use Rattle.rope.specs.Store.{touching, joinedRows}

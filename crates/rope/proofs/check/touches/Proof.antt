@@ -1,6 +1,6 @@
 use Rattle.span.specs.Span.{joinsSpan}
 use Rattle.span.specs.declared.span.FugueSpan.{FugueSpan}
-use mathlib.Core.Path.{_≡_, refl, sym, ap, _∙_}
+use mathlib.Core.Path.{ap, _∙_}
 use Rattle.rope.proofs.Checks.{touch-next, touch-none}
 use borrow.Author.Needs.{needs}
 use Rattle.rope.proofs.check.touches.Statement.{statement}

@@ -1,6 +1,6 @@
 use Prim.Native.Nat.{_-_}
 use Rattle.rope.proofs.Entering.{state-head, lent, end-fits, clear-refused, clear-asks, clear-done}
-use Rattle.rope.proofs.Editing.{back-long}
+use Rattle.rope.proofs.Editing.{in-long}
 use borrow.Author.Tests.{not-true, not-false}
 use lib.ListN.{length}
 use mathlib.Core.Path.{_≡_, sym, _∙_}
@@ -41,7 +41,7 @@ clear-rows-requires c κs = clear-asks (c .before .before .before .before .befor
 set-count-requires : tie.Need-set-count-requires
 set-count-requires c κs =
     let s = c .before .before .before .before .before .before .before .before .before .before .before .before .before .args .s .now in
-    back-long s (c .before .before .before .clear-rows .last .0) (c .before .before .before .before .before .room-end .result - 72) (state-head s (sym (c .before .before .before .before .before .before .before .before .before .before .check .ensures) ∙ not-false _ (c .before .before .before .before .before .before .before .before .before .if1 .left)))
+    in-long s (c .before .before .before .clear-rows .last .0) (c .before .before .before .before .before .room-end .result - 72) (state-head s (sym (c .before .before .before .before .before .before .before .before .before .before .check .ensures) ∙ not-false _ (c .before .before .before .before .before .before .before .before .before .if1 .left)))
 
 same-length-2 : tie.Need-same-length-2
 same-length-2 c = search needs

@@ -1,10 +1,10 @@
 use borrow.Author.Needs.{needs}
 use mathlib.Core.Path.{_≡_, refl, sym, ap, _∙_}
-use Prim.Native.Nat.{_+_, _-_, _*_, _≤_}
+use Prim.Native.Nat.{_-_, _≤_}
 use native.Mathlib.Omega.{arith}
 use lib.ListN.{drop}
 use Rattle.span.specs.declared.span.FugueSpan.{FugueSpan}
-use Rattle.store.specs.Row.{rows, rowAt}
+use Rattle.store.specs.Row.{rows}
 use Rattle.rope.specs.Spans.{offsetOf, findIn}
 use Rattle.rope.proofs.Finds.{find-turn, find-done}
 use Rattle.rope.proofs.find.find_elem.Statement.{statement}

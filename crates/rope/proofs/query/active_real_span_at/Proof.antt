@@ -1,16 +1,12 @@
-use mathlib.Core.Path.{_≡_}
+use mathlib.Core.Path.{_≡_, sym, ap, _∙_}
 use Rattle.store.specs.Row.{rows}
 use Rattle.rope.specs.Store.{spansOf}
-use Rattle.rope.proofs.States.{part}
-use mathlib.Core.Path.{sym, ap, _∙_}
-use native.Mathlib.Omega.{arith}
+use Rattle.rope.proofs.States.{part, state-of, part-spans, answer-none, answer-state}
 use borrow.Author.Tests.{not-true, not-false}
 use mathlib.Core.List.{List}
 use Rattle.span.specs.declared.span.FugueSpan.{FugueSpan}
-use Rattle.rope.specs.Spans.{Stored}
 use Rattle.rope.specs.Query.{realSpanAt}
 use Rattle.rope.specs.Entries.{realAnswer, realSaid}
-use Rattle.rope.proofs.States.{State, state-of, part-spans, answer-none, answer-state}
 use borrow.Author.Needs.{needs}
 use Rattle.rope.proofs.query.active_real_span_at.Statement.{statement}
 use Rattle.rope.proofs.query.active_real_span_at.Tie as tie

@@ -1,13 +1,11 @@
 use mathlib.Core.Path.{sym, ap, _∙_}
-use native.Mathlib.Omega.{arith}
 use borrow.Author.Tests.{not-true, not-false}
 use mathlib.Core.List.{List}
 use Rattle.span.specs.declared.span.FugueSpan.{FugueSpan}
 use Rattle.span.specs.Units.{expand}
 use Rattle.rope.specs.Place.{shown}
-use Rattle.rope.specs.Spans.{Stored}
 use Rattle.rope.specs.Entries.{lenAnswer}
-use Rattle.rope.proofs.States.{State, state-of, part-spans, answer-none, answer-state}
+use Rattle.rope.proofs.States.{state-of, part-spans, answer-none, answer-state}
 use borrow.Author.Needs.{needs}
 use Rattle.rope.proofs.query.visible_len.Statement.{statement}
 use Rattle.rope.proofs.query.visible_len.Tie as tie

@@ -1,0 +1,70 @@
+use mathlib.Core.Path.{_≡_, sym, _∙_}
+use native.Mathlib.Omega.{arith}
+use borrow.Author.Tests.{not-true, not-false}
+use Rattle.rope.proofs.Fills.{hold-least, rows-code-real, rows-code-full, rows-code-done, diffed-refused, diffed-done}
+use borrow.Author.Needs.{needs}
+use Rattle.rope.proofs.diff.diff_rows.Statement.{statement}
+use Rattle.rope.proofs.diff.diff_rows.Tie as tie
+use Rattle.rope.proofs.diff.diff_rows.Reads as reads
+use Rattle.rope.proofs.diff.diff_rows.Lts as lts
+use Rattle.rope.proofs.diff.all_real.Reads as all-real-reads
+use Rattle.rope.proofs.diff.count_entries.Reads as count-entries-reads
+use Rattle.rope.proofs.diff.shortest.Reads as shortest-reads
+use Rattle.rope.proofs.diff.write_entries.Reads as write-entries-reads
+
+all-real-requires : tie.Need-all-real-requires
+all-real-requires c κs = search needs
+
+returns : tie.Need-returns
+returns c = diffed-refused _ _ _ _ _ _ _ _ 12 (rows-code-real _ _ (sym (c .before .all-real .ensures) ∙ not-true _ (c .if1 .taken))) (λ z. omega arith)
+
+count-entries-requires : tie.Need-count-entries-requires
+count-entries-requires c κs = search needs
+
+shortest-requires : tie.Need-shortest-requires
+shortest-requires c κs = search needs
+
+returns-2 : tie.Need-returns-2
+returns-2 c = diffed-refused _ _ _ _ _ _ _ _ 13 (rows-code-full _ _ (sym (c .before .before .before .before .all-real .ensures) ∙ not-false _ (c .before .before .before .if1 .left)) (omega (arith, c .if2 .taken, c .before .shortest .ensures, c .before .before .count-entries .ensures))) (λ z. omega arith)
+
+write-entries-requires : tie.Need-write-entries-requires
+write-entries-requires c κs = (c .before .before .before .before .before .before .before .before .before .before .before .before .before .before .before .before .before .before .pre, hold-least _ _ _ _ _ _ _ (omega (arith, c .before .before .before .before .before .before .if2 .left, c .before .before .before .before .before .before .before .shortest .ensures, c .before .before .before .before .before .before .before .before .count-entries .ensures)))
+
+same-length : tie.Need-same-length
+same-length c = search needs
+
+same-length-2 : tie.Need-same-length-2
+same-length-2 c = search needs
+
+same-length-3 : tie.Need-same-length-3
+same-length-3 c = search needs
+
+same-length-4 : tie.Need-same-length-4
+same-length-4 c = search needs
+
+same-length-5 : tie.Need-same-length-5
+same-length-5 c = search needs
+
+same-length-6 : tie.Need-same-length-6
+same-length-6 c = search needs
+
+returns-3 : tie.Need-returns-3
+returns-3 c = diffed-done _ _ _ _ _ _ _ _ (rows-code-done _ _ (sym (c .before .before .before .before .before .before .before .before .before .before .before .before .before .before .before .before .before .before .before .before .before .before .before .all-real .ensures) ∙ not-false _ (c .before .before .before .before .before .before .before .before .before .before .before .before .before .before .before .before .before .before .before .before .before .before .if1 .left)) (omega (arith, c .before .before .before .before .before .before .before .before .before .before .before .before .before .before .before .before .before .before .before .if2 .left, c .before .before .before .before .before .before .before .before .before .before .before .before .before .before .before .before .before .before .before .before .shortest .ensures, c .before .before .before .before .before .before .before .before .before .before .before .before .before .before .before .before .before .before .before .before .before .count-entries .ensures))) _ (c .before .before .before .before .before .before .before .before .before .before .before .before .before .before .before .before .before .before .before .before .before .count-entries .ensures) _ _ _ _ _ _ (c .before .before .before .before .before .before .before .before .before .before .before .before .write-entries .ensures)
+
+pub diff-rows-spec : {M : Type 1} → statement M
+diff-rows-spec =
+    tie.close
+    (tie.spec
+    all-real-requires
+    returns
+    count-entries-requires
+    shortest-requires
+    returns-2
+    write-entries-requires
+    same-length
+    same-length-2
+    same-length-3
+    same-length-4
+    same-length-5
+    same-length-6
+    returns-3)
