@@ -7,7 +7,7 @@ use lib.Dec.{eqb, ltb}
 use lib.ListN.{length}
 use Rattle.span.specs.declared.ids.OptId.{OptId}
 use Rattle.rope.specs.Limits.{EDITS, fits}
-use Rattle.rope.specs.Delta.{Entry}
+use Rattle.rope.specs.declared.diff.Entry.{Entry}
 use Rattle.fugue.proofs.Keys.{Key}
 use Rattle.history.specs.Edit.{Version, Edit, History}
 use Rattle.history.specs.Checkout.{unitsAt, checkout}

@@ -14,7 +14,8 @@ use Rattle.rope.specs.Limits.{UNITS, EDITS, fits}
 use Rattle.rope.specs.Lists.{every}
 use Rattle.rope.specs.Query.{placeholder}
 use Rattle.rope.specs.Codes.{placeholderCode}
-use Rattle.rope.specs.Delta.{Entry, insertable}
+use Rattle.rope.specs.declared.diff.Entry.{Entry}
+use Rattle.rope.specs.Delta.{insertable}
 use Rattle.fugue.proofs.ScanPlace.{Mem}
 use Rattle.history.specs.Edit.{Version, Edit, Range, Held, History}
 use Rattle.history.specs.Version.{named, closed}

@@ -14,7 +14,10 @@ use Rattle.span.specs.Ids.{incId, roomOf, roomOpt}
 use Rattle.span.specs.Span.{realOf}
 use Rattle.span.specs.Units.{tab}
 use Rattle.rope.specs.Lists.{every, over}
-use Rattle.rope.specs.Delta.{Entry, Retain, Delete, Insert, OptLamport, Nothing, At}
+use Rattle.rope.specs.declared.diff.Entry.{Entry}
+use Rattle.rope.specs.declared.diff.Entry.the-variants.{Retain, Delete, Insert}
+use Rattle.rope.specs.declared.diff.OptLamport.{OptLamport}
+use Rattle.rope.specs.declared.diff.OptLamport.the-variants.{Nothing, At}
 use Rattle.rope.specs.Query.{visibles}
 use Rattle.rope.specs.Codes.{unless, kept}
 
