@@ -2,13 +2,15 @@
 ghost use mathlib.Core.Path.{_≡_};
 ghost use mathlib.Core.Bool.{true};
 ghost use Prim.Native.Nat.{_-_, _*_, _≤_, _<_};
-ghost use lib.IntN.{pos};
+ghost use lib.IntN.{pos, _+ℤ_};
 ghost use lib.ListN.{length, drop};
 ghost use Rattle.span.specs.declared.ids.OptId.the-variants.{At};
 ghost use Rattle.span.specs.Ids.{id};
-ghost use Rattle.span.specs.Units.{expand, join};
+ghost use Rattle.span.specs.Span.{spanCode};
+ghost use Rattle.span.specs.Status.{inI16};
+ghost use Rattle.span.specs.Units.{unitsOf, expand, join};
 ghost use Rattle.store.specs.Row.{rows};
-ghost use Rattle.rope.specs.Change.{updateUnits};
+ghost use Rattle.rope.specs.Change.{baseOf, updateUnits};
 ghost use Rattle.rope.specs.Store.{room, spansOf, isState};
 ghost use Rattle.rope.specs.Codes.{holdsAll, countsFit, updateCode};
 ghost use Rattle.rope.specs.Spans.{AllOk};
@@ -22,6 +24,8 @@ use crate::change::Update;
 use crate::find::has;
 use span::ids::Id;
 use span::ids::OptId;
+use span::span::FugueSpan;
+use span::status::StatusAnswer;
 use store::header;
 
 // The update of a range of counters of a peer, in a well formed list with room for what it becomes. The answer is the number of rows.
@@ -95,4 +99,42 @@ pub fn update_fitting(s: &mut [u8], u: Update) -> u8
     }
     write_update(s, n, u);
     0
+}
+
+// Whether an update keeps the count of a span within i16.
+pub fn base_fits(u: Update, row: FugueSpan) -> bool
+    ensures { λ r. ⌜ r ≡ inI16 (baseOf (u .diff) row .«delete_times» +ℤ u .change) ⌝ }
+{
+    match u.base(row).changed(u.change) {
+        StatusAnswer::Done(_) => true,
+        StatusAnswer::Refused(_) => false,
+    }
+}
+
+// The same of the units of a row that it changes.
+pub fn row_fits(u: Update, row: FugueSpan) -> bool
+    requires { ⌜ (spanCode row ≡ 0) × (u .from ≤ u .to) ⌝ }
+    ensures { λ r. ⌜ r ≡ countsFit (u .peer) (pos (u .from)) (pos (u .to)) (u .change) (u .diff) (unitsOf row) ⌝ }
+{
+    let part = u.cut(row);
+    if part.from < part.to {
+        base_fits(u, row)
+    } else {
+        true
+    }
+}
+
+// Whether an update keeps every count within i16 (refusal 11).
+pub fn counts_fit(s: &[u8], n: usize, u: Update) -> bool
+    requires { ⌜ (n * 72 ≤ length (now s)) × AllOk (rows n (now s)) × (u .from ≤ u .to) ⌝ }
+    ensures { λ r. ⌜ r ≡ countsFit (u .peer) (pos (u .from)) (pos (u .to)) (u .change) (u .diff) (expand (rows n (now (s .entry)))) ⌝ }
+{
+    let mut i = 0;
+    while i < n {
+        if !row_fits(u, store::get_row(s, i)) {
+            return false;
+        }
+        i += 1;
+    }
+    true
 }
