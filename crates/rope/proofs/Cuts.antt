@@ -165,6 +165,32 @@ module _ (f : SetFuture) (k : ℤ) (b : Status) (in-range : inI16 (b .«delete_t
       is (Answer.Done t) = true
       is (Answer.Refused n) = false
 
+-- whether a change of a count is refused
+module _ (b : Status) (k : ℤ) where
+  times-by : (t : Bool) → inI16 (b .«delete_times» +ℤ k) ≡ t → timesOf b k ≡ cond t (Answer.Done (status (b .future) (b .«delete_times» +ℤ k))) (Answer.Refused 11)
+  unfolding timesOf
+  times-by t e = ap (λ (c : Bool). cond c (Answer.Done (status (b .future) (b .«delete_times» +ℤ k))) (Answer.Refused 11)) e
+
+  is-done : StatusAnswer → Bool
+  is-done (Answer.Done s) = true
+  is-done (Answer.Refused n) = false
+
+  by-answer : inI16 (b .«delete_times» +ℤ k) ≡ is-done (timesOf b k)
+  unfolding is-done
+  by-answer = go (inI16 (b .«delete_times» +ℤ k)) refl
+    where
+      go : (t : Bool) → inI16 (b .«delete_times» +ℤ k) ≡ t → inI16 (b .«delete_times» +ℤ k) ≡ is-done (timesOf b k)
+      go true e = e ∙ sym (ap is-done (times-by true e))
+      go false e = e ∙ sym (ap is-done (times-by false e))
+
+  pub times-yes : (s : Status) → Answer.Done s ≡ timesOf b k → true ≡ inI16 (b .«delete_times» +ℤ k)
+  unfolding is-done
+  times-yes s e = ap is-done e ∙ sym by-answer
+
+  pub times-no : (n : ℕ) → Answer.Refused n ≡ timesOf b k → false ≡ inI16 (b .«delete_times» +ℤ k)
+  unfolding is-done
+  times-no n e = ap is-done e ∙ sym by-answer
+
 -- a piece that is updated
 module _ (f : SetFuture) (k : ℤ) (u : FugueSpan) (new : Status) (diff : Bool) (e : new ≡ changeStatus f k (baseOf diff u)) where
   pub updated-diff : diff ≡ true → withState u (u .status) (OptS.Is new) (u .«real_id») ≡ updateUnit f k diff u
