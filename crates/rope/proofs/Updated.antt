@@ -1,12 +1,11 @@
 -- the update of a store, step by step: what each step may ask, and what each way out leaves
 use Prim.Native.Nat.{ℕ, zero, suc, _+_, _-_, _*_, _<_, _≤_}
 use mathlib.Core.Path.{_≡_, refl, sym, ap, ap₂, subst, _∙_}
-use mathlib.Core.Bool.{Bool, true, false, _&&_, cond, true≢false, false≢true}
-use mathlib.Core.List.{List, [], _∷_, _++_}
+use mathlib.Core.Bool.{Bool, true, false, _&&_, cond}
+use mathlib.Core.List.{List}
 use native.Mathlib.Omega.{arith}
 use lib.Dec.{leb}
-use lib.IntN.{ℤ, pos, negsuc, _-ℤ_, natAbs}
-use lib.Signed.{leZ}
+use lib.IntN.{pos, negsuc, _-ℤ_, natAbs}
 use lib.ListN.{length, drop}
 use borrow.Author.Tests.{le-leb, lt-leb, le-ltb, leb-true}
 use Rattle.words.specs.Le.{bytesOf, put}
@@ -18,13 +17,12 @@ use Rattle.span.specs.Units.{expand, join}
 use Rattle.store.specs.Row.{rows}
 use Rattle.store.proofs.Laws.{length-rows}
 use Rattle.rope.specs.declared.change.Update.{Update}
-use Rattle.rope.specs.declared.change.Change.{Change}
 use Rattle.rope.specs.declared.change.Change.the-variants as Ch
 use Rattle.rope.specs.Limits.{fits}
 use Rattle.rope.specs.Place.{memId}
 use Rattle.rope.specs.Store.{count, room, spansOf, wellFormed, isState}
 use Rattle.rope.specs.Codes.{unless, holdsAll, countsFit, updateCode}
-use Rattle.rope.specs.Spans.{AllOk, Stored}
+use Rattle.rope.specs.Spans.{AllOk}
 use Rattle.rope.specs.Pieces.{allPieces}
 use Rattle.rope.specs.Applies.{Counts, Updates}
 use Rattle.rope.specs.Edits.{Written, Edited}

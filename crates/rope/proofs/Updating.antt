@@ -2,19 +2,18 @@
 use Prim.Native.Nat.{ℕ, zero, suc, _+_, _-_, _*_, _<_, _≤_, min}
 use mathlib.Core.Path.{_≡_, refl, sym, ap, ap₂, subst, _∙_}
 use mathlib.Core.Bool.{Bool, true, false, not, _&&_, _||_, cond, true≢false, false≢true}
-use mathlib.Core.List.{List, [], _∷_, _++_, map, map-append, append-assoc, append-nil}
+use mathlib.Core.List.{List, [], _∷_, _++_, map, map-append, append-nil}
 use mathlib.Core.Logic.{_⊎_, inl, inr}
 use native.Mathlib.Omega.{arith}
 use native.Mathlib.Nat.{add-zero, zero-add}
 use lib.Dec.{ltb, leb, eqb}
-use lib.IntN.{ℤ, pos, negsuc, _+ℤ_}
+use lib.IntN.{ℤ, pos, _+ℤ_}
 use lib.Signed.{leZ, ltZ}
 use lib.ListN.{length, drop, length-append}
 use Rattle.rope.proofs.Rights.{row-drop, row-none}
 use borrow.Author.Tests.{lt-ltb, le-ltb, le-leb, lt-leb, eqb-true}
-use Rattle.span.specs.declared.ids.Id.{Id}
 use Rattle.span.specs.declared.ids.OptId.{OptId}
-use Rattle.span.specs.declared.ids.OptId.the-variants.{Nothing, At}
+use Rattle.span.specs.declared.ids.OptId.the-variants.{At}
 use Rattle.span.specs.declared.span.FugueSpan.{FugueSpan}
 use Rattle.span.specs.Ids.{id, incId}
 use Rattle.span.proofs.IdsLaws.{Room, roomy}
@@ -28,13 +27,12 @@ use Rattle.store.specs.Row.{rows, rowAt}
 use Rattle.store.proofs.Laws.{length-rows}
 use Rattle.rope.specs.declared.change.SetFuture.{SetFuture}
 use Rattle.rope.specs.declared.change.Update.{Update}
-use Rattle.rope.specs.declared.change.Change.{Change}
 use Rattle.rope.specs.declared.change.Change.the-variants as Ch
 use Rattle.rope.specs.declared.change.Part.{Part}
 use Rattle.rope.specs.Place.{memId, Distinct}
-use Rattle.rope.specs.Spans.{AllOk, covered}
+use Rattle.rope.specs.Spans.{AllOk}
 use Rattle.rope.specs.Lists.{every}
-use Rattle.rope.specs.Change.{withState, changeStatus, baseOf, updateUnit, inRange, updateUnits}
+use Rattle.rope.specs.Change.{withState, baseOf, updateUnit, inRange, updateUnits}
 use Rattle.rope.specs.Codes.{countsFit}
 use Rattle.rope.specs.Pieces.{part, partAt, partFrom, updateCut, CanCut, CanChange, cutOf, afterOf, changeSpan, partOf, changedOf, piecesOf, allPieces}
 use Rattle.rope.specs.Applies.{Fit, AllFit, Applies, Updates}
@@ -43,8 +41,8 @@ use Rattle.rope.proofs.Offsets.{covers-units}
 use Rattle.rope.proofs.Apart.{covered-unit}
 use Rattle.rope.proofs.Inserts.{part-units}
 use Rattle.rope.proofs.Cuts.{cut-by, update-most}
-use Rattle.rope.proofs.Queue.{lt-or, part-some, part-none, changed-some, changed-none}
-use Rattle.rope.proofs.Deletes.{part-expand, pieces-size}
+use Rattle.rope.proofs.Queue.{lt-or, changed-some, changed-none}
+use Rattle.rope.proofs.Deletes.{part-expand, pieces-size, once, none}
 
 -- ---- an updated piece, unit by unit
 
@@ -405,12 +403,6 @@ inner-some y n h = (omega arith, omega arith)
 inner-one : (y n : ℕ) → inner y n ≤ 1
 unfolding inner
 inner-one y n = omega arith
-
-once : (x : ℕ) → min 1 x ≤ 1
-once x = omega arith
-
-none : (x : ℕ) → x ≡ 0 → min 1 x ≡ 0
-none x h = omega arith
 
 three-bits : (f t n : ℕ) → f ≤ t → t ≤ n → min 1 f + (min 1 (t - f) + min 1 (n - t)) ≤ 1 + (inner f n + inner t n)
 three-bits f t n h k = go (lt-or 0 f) (lt-or f n) (lt-or 0 t) (lt-or t n)

@@ -4,15 +4,11 @@ use lib.IntN.{_+ℤ_}
 use mir.Facts.{toZ-ofZ}
 use mir.Val.{SFits}
 use mir.Syntax.{w16}
-use mathlib.Core.Path.{_≡_, sym, ap, _∙_}
+use mathlib.Core.Path.{sym, ap, _∙_}
 use Rattle.rope.proofs.Cuts.{times-yes, times-no}
 use borrow.Author.Needs.{needs}
 use Rattle.rope.proofs.update.base_fits.Statement.{statement}
 use Rattle.rope.proofs.update.base_fits.Tie as tie
-use Rattle.rope.proofs.update.base_fits.Reads as reads
-use Rattle.rope.proofs.update.base_fits.Lts as lts
-use Rattle.rope.proofs.change.Update.base.Reads as base-reads
-use Rattle.span.proofs.status.Status.changed.Reads as changed-reads
 
 base-requires : tie.Need-base-requires
 base-requires c κs = search needs

@@ -5,7 +5,7 @@ use Rattle.span.specs.Span.{spanCode}
 use Rattle.span.specs.declared.span.FugueSpan.{FugueSpan}
 use lib.ListN.{drop}
 use lib.IntN.{pos}
-use Prim.Native.Nat.{_+_, _-_, _≤_}
+use Prim.Native.Nat.{_-_, _≤_}
 use native.Mathlib.Omega.{arith}
 use mathlib.Core.Bool.{true, false}
 use mathlib.Core.Path.{_≡_, refl, sym, ap, subst, _∙_}
@@ -14,10 +14,6 @@ use Rattle.rope.proofs.Rights.{row-ok}
 use Rattle.rope.proofs.Updating.{fits-turn, fits-done}
 use Rattle.rope.proofs.update.counts_fit.Statement.{statement}
 use Rattle.rope.proofs.update.counts_fit.Tie as tie
-use Rattle.rope.proofs.update.counts_fit.Reads as reads
-use Rattle.rope.proofs.update.counts_fit.Lts as lts
-use Rattle.rope.proofs.update.row_fits.Reads as row-fits-reads
-use Rattle.store.proofs.get_row.Reads as get-row-reads
 
 abbrev Inv-loop : tie.InvT-loop
 Inv-loop s n u i₀ i = (i ≤ n) × (countsFit (u .peer) (pos (u .from)) (pos (u .to)) (u .change) (u .diff) (expand (rows n s)) ≡ countsFit (u .peer) (pos (u .from)) (pos (u .to)) (u .change) (u .diff) (expand (drop i (rows n s))))

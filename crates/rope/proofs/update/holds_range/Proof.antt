@@ -5,17 +5,13 @@ use Rattle.span.specs.Units.{expand}
 use Rattle.span.specs.Ids.{id}
 use Rattle.span.specs.declared.ids.OptId.{OptId}
 use lib.IntN.{pos}
-use Prim.Native.Nat.{_+_, _-_, _≤_}
+use Prim.Native.Nat.{_-_, _≤_}
 use native.Mathlib.Omega.{arith}
 use mathlib.Core.Path.{_≡_, refl, sym, ap, _∙_}
 use borrow.Author.Tests.{not-true, not-false}
 use Rattle.rope.proofs.Updated.{held-turn, held-not, held-done}
 use Rattle.rope.proofs.update.holds_range.Statement.{statement}
 use Rattle.rope.proofs.update.holds_range.Tie as tie
-use Rattle.rope.proofs.update.holds_range.Reads as reads
-use Rattle.rope.proofs.update.holds_range.Lts as lts
-use Rattle.rope.proofs.find.has.Reads as has-reads
-use Rattle.rope.proofs.update.named.Reads as named-reads
 
 abbrev Inv-loop : tie.InvT-loop
 Inv-loop s n peer from to c₀ c = (c ≤ to) × (holdsAll (to - from) (id peer (pos from)) (expand (rows n s)) ≡ holdsAll (to - c) (id peer (pos c)) (expand (rows n s)))

@@ -9,8 +9,6 @@ use mathlib.Core.Path.{ap}
 use borrow.Author.Needs.{needs}
 use Rattle.rope.proofs.update.named.Statement.{statement}
 use Rattle.rope.proofs.update.named.Tie as tie
-use Rattle.rope.proofs.update.named.Reads as reads
-use Rattle.rope.proofs.update.named.Lts as lts
 
 cast-t3 : tie.Need-cast-t3
 cast-t3 c = search needs

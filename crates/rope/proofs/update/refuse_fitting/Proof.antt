@@ -1,14 +1,10 @@
 use Rattle.store.specs.Row.{rows}
 use native.Mathlib.Omega.{arith}
-use mathlib.Core.Path.{_≡_, sym, _∙_}
+use mathlib.Core.Path.{sym, _∙_}
 use borrow.Author.Tests.{not-true, not-false}
 use Rattle.rope.proofs.Updated.{fit-holds, fit-counts, fit-count, rest-held, rest-full, rest-none}
 use Rattle.rope.proofs.update.refuse_fitting.Statement.{statement}
 use Rattle.rope.proofs.update.refuse_fitting.Tie as tie
-use Rattle.rope.proofs.update.refuse_fitting.Reads as reads
-use Rattle.rope.proofs.update.refuse_fitting.Lts as lts
-use Rattle.rope.proofs.apply.count.Reads as count-reads
-use Rattle.rope.proofs.update.holds_range.Reads as holds-range-reads
 
 holds-range-requires : tie.Need-holds-range-requires
 holds-range-requires c κs = let e = c .before in let a = e .args in fit-holds (a .n) (a .u) (a .s .now) (e .pre)

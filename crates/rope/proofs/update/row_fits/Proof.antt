@@ -1,15 +1,11 @@
 use Rattle.rope.specs.declared.change.Part.{Part}
 use Prim.Native.Nat.{_≤_, _<_}
 use native.Mathlib.Omega.{arith}
-use mathlib.Core.Path.{_≡_, subst, _∙_}
+use mathlib.Core.Path.{subst, _∙_}
 use Rattle.rope.proofs.Updating.{row-some, row-empty}
 use borrow.Author.Needs.{needs}
 use Rattle.rope.proofs.update.row_fits.Statement.{statement}
 use Rattle.rope.proofs.update.row_fits.Tie as tie
-use Rattle.rope.proofs.update.row_fits.Reads as reads
-use Rattle.rope.proofs.update.row_fits.Lts as lts
-use Rattle.rope.proofs.change.Update.cut.Reads as cut-reads
-use Rattle.rope.proofs.update.base_fits.Reads as base-fits-reads
 
 cut-requires : tie.Need-cut-requires
 cut-requires c κs = search needs

@@ -3,12 +3,6 @@ use Rattle.rope.proofs.Updated.{some-fits, some-refused, some-rewrites,
 use borrow.Author.Needs.{needs}
 use Rattle.rope.proofs.update.update_fitting.Statement.{statement}
 use Rattle.rope.proofs.update.update_fitting.Tie as tie
-use Rattle.rope.proofs.update.update_fitting.Reads as reads
-use Rattle.rope.proofs.update.update_fitting.Lts as lts
-use Rattle.rope.proofs.update.refuse_fitting.Reads as refuse-fitting-reads
-use Rattle.rope.proofs.update.write_update.Reads as write-update-reads
-use Rattle.store.proofs.header.count.Reads as count-reads
-use Rattle.store.proofs.header.room.Reads as room-reads
 
 count-requires : tie.Need-count-requires
 count-requires c κs = state-head (c .before .before .args .s .now) (c .before .before .pre .0)

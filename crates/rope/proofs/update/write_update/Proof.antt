@@ -3,10 +3,6 @@ use Rattle.rope.proofs.Updated.{rewrites-asks, rewrites-done}
 use borrow.Author.Needs.{needs}
 use Rattle.rope.proofs.update.write_update.Statement.{statement}
 use Rattle.rope.proofs.update.write_update.Tie as tie
-use Rattle.rope.proofs.update.write_update.Reads as reads
-use Rattle.rope.proofs.update.write_update.Lts as lts
-use Rattle.rope.proofs.update.update_rows.Reads as update-rows-reads
-use Rattle.store.proofs.header.set_count.Reads as set-count-reads
 
 sub-update-rows : tie.Need-sub-update-rows
 sub-update-rows c = search needs
