@@ -77,9 +77,9 @@ module _ (all rest : List Item) (at k : ℕ) (s0 s : List ℕ) (v : Writing all 
         long = m ∙ v .long;
         room = omega (arith, z, v .room, p);
         is =
-          ap₂ (λ (n : ℕ) (u : List ℕ). put n (itemsBytes left) u) w q
-          ∙ (put-put s (itemsBytes xs) (k * 24) h (itemsBytes left)
-          ∙ (ap (λ (b : List ℕ). put (k * 24) b s) (sym (items-bytes-append xs left)) ∙ (ap (λ (l : List Item). put (k * 24) (itemsBytes l) s) (sym e) ∙ v .is)));
+            ap₂ (λ (n : ℕ) (u : List ℕ). put n (itemsBytes left) u) w q
+            ∙ (put-put s (itemsBytes xs) (k * 24) h (itemsBytes left)
+            ∙ (ap (λ (b : List ℕ). put (k * 24) b s) (sym (items-bytes-append xs left)) ∙ (ap (λ (l : List Item). put (k * 24) (itemsBytes l) s) (sym e) ∙ v .is)));
       }
 
   pub write-one : (x : Item) (left : List Item) → rest ≡ x ∷ left → (t : List ℕ) → length t ≡ length s → t ≡ put (k * 24) (itemBytes x) s → Writing all left at (k + 1) s0 t
