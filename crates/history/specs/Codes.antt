@@ -11,7 +11,8 @@ use Rattle.span.specs.Units.{expand, join}
 use Rattle.rope.specs.Limits.{UNITS, EDITS, fits}
 use Rattle.rope.specs.Lists.{every, over}
 use Rattle.rope.specs.Place.{shown}
-use Rattle.rope.specs.Delta.{Entry, insertable}
+use Rattle.rope.specs.declared.diff.Entry.{Entry}
+use Rattle.rope.specs.Delta.{insertable}
 use Rattle.rope.specs.Codes.{unless, kept, placeholderCode}
 use Rattle.history.specs.Edit.{Version, Act, Insert, Delete, Edit, History}
 use Rattle.history.specs.Version.{named, closed}
