@@ -10,9 +10,11 @@ use Rattle.span.specs.Ids.{id, UNKNOWN-PEER}
 use Rattle.span.specs.Units.{tab}
 use Rattle.rope.specs.declared.diff.Entry.the-variants.{Retain}
 use Rattle.rope.specs.declared.diff.Entry.the-variants as D
-use Rattle.rope.specs.declared.diff.OptLamport.the-variants as DL
+use Rattle.rope.specs.declared.diff.OptLamport.the-variants as L
 use Rattle.history.specs.Edit.{Version, Insert, Delete, Edit, History}
-use Rattle.history.specs.Apply.{Item, Known, Strange, applyCode}
+use Rattle.apply.specs.declared.item.Item.{Item}
+use Rattle.apply.specs.declared.given.Given.the-variants.{Known, Strange}
+use Rattle.history.specs.Apply.{applyCode}
 use Rattle.history.specs.Codes.{arriveCode, checkoutCode, checkoutOf, deltaCode}
 use Rattle.history.specs.Open.{historyOpen}
 use Rattle.history.specs.Script.{_∶_, u, text, one, del, run, new}
@@ -81,8 +83,8 @@ pub record Refusals : Type 0 where
   pub units15 : arriveCode 65536 65536 (record { placeholder = 1; list = h .list; held = h .held }) (del 0 1 3 0 false (u 1 0) []) ≡ 15
   pub targets15 : arriveCode 65536 65536 (record { placeholder = 0; list = h .list; held = [] }) (del 0 1 3 0 false (u 1 0) []) ≡ 15
   -- the applier: the lowest number over the whole input
-  pub entry1 : applyCode [] (Known (Retain 9) ∷ Known (D.Insert (chunk 5 5) (u 1 0) DL.Nothing) ∷ []) one-left ≡ 1
-  pub entry2 : applyCode [] (Strange ∷ Known (D.Insert (chunk 5 6) (id UNKNOWN-PEER (pos 0)) DL.Nothing) ∷ []) one-left ≡ 2
+  pub entry1 : applyCode [] (Known (Retain 9) ∷ Known (D.Insert (chunk 5 5) (u 1 0) L.Nothing) ∷ []) one-left ≡ 1
+  pub entry2 : applyCode [] (Strange ∷ Known (D.Insert (chunk 5 6) (id UNKNOWN-PEER (pos 0)) L.Nothing) ∷ []) one-left ≡ 2
   pub past14 : applyCode [] (Known (Retain 1) ∷ Known (D.Delete 1) ∷ []) one-left ≡ 14
   pub kind14 : applyCode [] (Strange ∷ []) one-left ≡ 14
   pub empty14 : applyCode [] (Known (Retain 0) ∷ []) one-left ≡ 14

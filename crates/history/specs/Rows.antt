@@ -15,7 +15,7 @@ use Rattle.span.specs.Units.{tab, expand}
 use Rattle.rope.specs.declared.diff.Entry.{Entry}
 use Rattle.rope.specs.declared.diff.Entry.the-variants.{Retain}
 use Rattle.rope.specs.declared.diff.Entry.the-variants as D
-use Rattle.rope.specs.declared.diff.OptLamport.the-variants as DL
+use Rattle.rope.specs.declared.diff.OptLamport.the-variants as L
 use Rattle.history.specs.Edit.{Version, Edit, History}
 use Rattle.history.specs.Tree.{treeOf}
 use Rattle.history.specs.Codes.{arriveCode, deltaOf}
@@ -116,7 +116,7 @@ pub record Rows : Type 0 where
   pub p9 : reals (run (new 4) (del 2 9 0 1 false (u 9 40) [] ∷ [])) ≡ Nothing ∷ At (u 9 40) ∷ At (u 9 41) ∷ Nothing ∷ []
   pub p9-reversed : run (new 4) (del 2 9 0 1 true (u 9 40) [] ∷ []) .list ≡ run (new 4) (del 2 9 0 1 false (u 9 40) [] ∷ []) .list
   pub p10 : deltaIn 2 P10 (1 ∶ 5 ∷ []) (1 ∶ 5 ∷ 2 ∶ 2 ∷ []) ≡ Retain 1 ∷ D.Delete 2 ∷ []
-  pub p11 : deltaIn 2 P10 (1 ∶ 5 ∷ 2 ∶ 2 ∷ []) (1 ∶ 5 ∷ []) ≡ Retain 1 ∷ D.Insert (chunk 1 3) (u 1 1) (DL.At 1) ∷ []
+  pub p11 : deltaIn 2 P10 (1 ∶ 5 ∷ 2 ∶ 2 ∷ []) (1 ∶ 5 ∷ []) ≡ Retain 1 ∷ D.Insert (chunk 1 3) (u 1 1) (L.At 1) ∷ []
   pub origins : arrivals 3 hidden ≡ times 1 (u 1 2 ∷ u 1 0 ∷ [])
   pub origins-tree : walked hidden ≡ u 1 2 ∷ u 1 0 ∷ []
   pub holding : arrivals 4 cleared ≡ times 6 (u 1 1 ∷ u 1 0 ∷ u 2 1 ∷ u 2 0 ∷ [])

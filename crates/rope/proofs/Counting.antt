@@ -1,13 +1,12 @@
 -- the rows that a change would leave, counted with a queue: what holds between two rows, a row done, the end
-use Prim.Native.Nat.{ℕ, zero, suc, _+_, _-_, _*_, _<_, _≤_}
+use Prim.Native.Nat.{ℕ, _+_, _-_, _*_, _<_, _≤_}
 use mathlib.Core.Path.{_≡_, refl, sym, ap, ap₂, subst, _∙_}
 use mathlib.Core.List.{List, [], _∷_, _++_, append-assoc, append-nil}
 use mathlib.Core.Logic.{_⊎_, inl, inr}
 use native.Mathlib.Omega.{arith}
-use lib.ListN.{length, set, take, drop, length-append, take-append-drop}
+use lib.ListN.{length, take, drop, length-append}
 use lib.Seq.{length-take-le}
 use Rattle.span.specs.declared.span.FugueSpan.{FugueSpan}
-use Rattle.span.specs.Span.{spanCode}
 use Rattle.span.specs.Units.{expand, Joined, join}
 use Rattle.span.proofs.ForRope.{expand-append, joined-is}
 use Rattle.store.specs.Row.{rows, rowAt, PutRow}

@@ -1,9 +1,9 @@
 -- the cut that a change makes in a span, and what is left of a delete after it
-use Prim.Native.Nat.{ℕ, zero, suc, _+_, _-_, _<_, _≤_, min}
+use Prim.Native.Nat.{ℕ, _+_, _-_, _<_, _≤_, min}
 use mathlib.Core.Path.{_≡_, refl, sym, ap, ap₂, subst, _∙_}
-use mathlib.Core.Bool.{Bool, true, false, not, _&&_, cond, true≢false, false≢true, and-eq-true-iff}
+use mathlib.Core.Bool.{Bool, true, false, not, cond, true≢false, false≢true, and-eq-true-iff}
 use native.Mathlib.Omega.{arith}
-use lib.Dec.{leb, eqb}
+use lib.Dec.{eqb}
 use lib.IntN.{ℤ, pos, negsuc, _+ℤ_}
 use borrow.Author.Tests.{le-leb, leb-true, eqb-true}
 use Rattle.span.specs.declared.ids.Id.{Id}
@@ -164,6 +164,32 @@ module _ (f : SetFuture) (k : ℤ) (b : Status) (in-range : inI16 (b .«delete_t
       is : StatusAnswer → Bool
       is (Answer.Done t) = true
       is (Answer.Refused n) = false
+
+-- whether a change of a count is refused
+module _ (b : Status) (k : ℤ) where
+  times-by : (t : Bool) → inI16 (b .«delete_times» +ℤ k) ≡ t → timesOf b k ≡ cond t (Answer.Done (status (b .future) (b .«delete_times» +ℤ k))) (Answer.Refused 11)
+  unfolding timesOf
+  times-by t e = ap (λ (c : Bool). cond c (Answer.Done (status (b .future) (b .«delete_times» +ℤ k))) (Answer.Refused 11)) e
+
+  is-done : StatusAnswer → Bool
+  is-done (Answer.Done s) = true
+  is-done (Answer.Refused n) = false
+
+  by-answer : inI16 (b .«delete_times» +ℤ k) ≡ is-done (timesOf b k)
+  unfolding is-done
+  by-answer = go (inI16 (b .«delete_times» +ℤ k)) refl
+    where
+      go : (t : Bool) → inI16 (b .«delete_times» +ℤ k) ≡ t → inI16 (b .«delete_times» +ℤ k) ≡ is-done (timesOf b k)
+      go true e = e ∙ sym (ap is-done (times-by true e))
+      go false e = e ∙ sym (ap is-done (times-by false e))
+
+  pub times-yes : (s : Status) → Answer.Done s ≡ timesOf b k → true ≡ inI16 (b .«delete_times» +ℤ k)
+  unfolding is-done
+  times-yes s e = ap is-done e ∙ sym by-answer
+
+  pub times-no : (n : ℕ) → Answer.Refused n ≡ timesOf b k → false ≡ inI16 (b .«delete_times» +ℤ k)
+  unfolding is-done
+  times-no n e = ap is-done e ∙ sym by-answer
 
 -- a piece that is updated
 module _ (f : SetFuture) (k : ℤ) (u : FugueSpan) (new : Status) (diff : Bool) (e : new ≡ changeStatus f k (baseOf diff u)) where

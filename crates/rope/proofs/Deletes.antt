@@ -7,7 +7,6 @@ use mathlib.Core.Logic.{_⊎_, inl, inr}
 use native.Mathlib.Omega.{arith}
 use native.Mathlib.Nat.{add-zero, zero-add, suc-add}
 use lib.ListN.{length, length-append}
-use lib.IntN.{pos, _+ℤ_}
 use Rattle.span.specs.declared.ids.Id.{Id}
 use Rattle.span.specs.declared.ids.OptId.{OptId}
 use Rattle.span.specs.declared.ids.OptId.the-variants.{Nothing, At}
@@ -17,8 +16,6 @@ use Rattle.span.proofs.IdsLaws.{inc-zero, inc-inc}
 use Rattle.span.specs.Status.{activated}
 use Rattle.span.specs.Span.{lenSpan, spanCode, shift, leftOf, partSpan, sliceSpanCode, activeLen}
 use Rattle.span.specs.Units.{tab, unitAt, unitsOf, expand, join}
-use Rattle.span.proofs.SpanLaws.{span-ok}
-use Rattle.span.proofs.Views.{len-pos}
 use Rattle.store.specs.Row.{rows}
 use Rattle.store.proofs.Laws.{length-rows}
 use Rattle.span.proofs.ListLaws.{tab-add}
@@ -35,10 +32,10 @@ use Rattle.rope.specs.Change.{withState, orReal, deleteUnit, deleteFirst
 use Rattle.rope.specs.Pieces.{part, deleteCut, tookOf, deleteAfter, CanDelete, CanCut, CanChange, cutOf, afterOf, changeSpan, partOf, changedOf, piecesOf, allPieces}
 use Rattle.rope.specs.Applies.{Fit, AllFit, Applies, Deletes}
 use Rattle.rope.proofs.Offsets.{unit-status}
-use Rattle.rope.proofs.Seeks.{front-zero, behind-zero, front-in, behind-in, front-vis, behind-vis, front-inv, behind-inv, active-is, active-most}
+use Rattle.rope.proofs.Seeks.{front-zero, behind-zero, front-in, behind-in, front-vis, behind-vis, front-inv, behind-inv, active-is}
 use Rattle.rope.proofs.Inserts.{part-units}
-use Rattle.rope.proofs.Cuts.{took-most, delete-low, delete-most, can-after, cut-seen, cut-most}
-use Rattle.rope.proofs.Queue.{lt-or, part-some, part-none, changed-some, changed-none, part-short, changed-short}
+use Rattle.rope.proofs.Cuts.{can-after, cut-seen}
+use Rattle.rope.proofs.Queue.{lt-or, part-some, part-none, changed-some, changed-none}
 
 -- ---- a deleted piece, unit by unit
 
@@ -362,10 +359,10 @@ pieces-size e s =
 less : (x y : ℕ) → x ≤ y → min 1 x ≤ min 1 y
 less x y h = omega arith
 
-none : (x : ℕ) → x ≡ 0 → min 1 x ≡ 0
+pub none : (x : ℕ) → x ≡ 0 → min 1 x ≡ 0
 none x h = omega arith
 
-once : (x : ℕ) → min 1 x ≤ 1
+pub once : (x : ℕ) → min 1 x ≤ 1
 once x = omega arith
 
 full : (x : ℕ) → 0 < x → min 1 x ≡ 1

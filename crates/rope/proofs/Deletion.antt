@@ -1,11 +1,11 @@
 -- the entry delete, step by step: what each step may ask, and what each way out leaves
 use Prim.Native.Nat.{ℕ, zero, suc, _+_, _-_, _*_, _/_, _<_, _≤_}
 use mathlib.Core.Path.{_≡_, refl, sym, ap, ap₂, subst, _∙_}
-use mathlib.Core.Bool.{Bool, true, false, _&&_, cond, true≢false, false≢true}
+use mathlib.Core.Bool.{Bool, true, false, cond}
 use mathlib.Core.List.{List, [], _∷_, _++_}
 use native.Mathlib.Omega.{arith}
-use lib.Dec.{leb, ltb, eqb}
-use lib.ListN.{length, take, drop}
+use lib.Dec.{leb}
+use lib.ListN.{length, drop}
 use borrow.Author.Tests.{le-leb, lt-leb, leb-true, eq-eqb, ne-eqb}
 use Rattle.words.specs.Le.{bytesOf, put}
 use Rattle.span.specs.declared.ids.Id.{Id}
@@ -20,20 +20,19 @@ use Rattle.span.proofs.Unique.{join-expand}
 use Rattle.store.specs.Row.{rows}
 use Rattle.store.proofs.Laws.{length-rows}
 use Rattle.rope.specs.declared.change.Delete.{Delete}
-use Rattle.rope.specs.declared.change.Change.{Change}
 use Rattle.rope.specs.declared.change.Change.the-variants as Ch
 use Rattle.rope.specs.declared.delete.DeleteAnswer.{DeleteAnswer}
 use Rattle.rope.specs.declared.delete.DeleteAnswer.the-variants.{Done, Refused}
 use Rattle.rope.specs.Limits.{fits}
 use Rattle.rope.specs.Place.{front, behind, shown}
 use Rattle.rope.specs.Store.{count, room, spansOf, wellFormed, isState}
-use Rattle.rope.specs.Change.{deleteFirst, deleteUnits, touched, pieces}
+use Rattle.rope.specs.Change.{deleteUnits, pieces}
 use Rattle.rope.specs.Codes.{unless, deleteCode}
-use Rattle.rope.specs.Spans.{AllOk, Stored}
-use Rattle.rope.specs.Pieces.{CanDelete, allPieces}
+use Rattle.rope.specs.Spans.{Stored}
+use Rattle.rope.specs.Pieces.{allPieces}
 use Rattle.rope.specs.Applies.{Counts, Deletes}
-use Rattle.rope.specs.Reports.{Taken, Report, Listed}
-use Rattle.rope.specs.Edits.{Written, Edited}
+use Rattle.rope.specs.Reports.{Report, Listed}
+use Rattle.rope.specs.Edits.{headRest, Written}
 use Rattle.rope.specs.Deletions.{outRows, deleteNumber, deleteList, deleteRest, Deleted, Removes}
 use Rattle.rope.proofs.WellFormed.{Formed, formed-of}
 use Rattle.rope.proofs.States.{part, part-rest, part-length, room-most, room-long}
@@ -289,3 +288,13 @@ module _ (s o : List ℕ) (at len : ℕ) (start : Id) (reversed : Bool) where
 
   pub delete-some : isState s ≡ true → (r : DeleteAnswer) (t p : List ℕ) → Deleted (deleteCode (room s) (outRows o) (spansOf s) at len start reversed) left out r s o t p → Deleted number left out r s o t p
   delete-some e r t p w = subst (λ (c : ℕ). Deleted c left out r s o t p) (sym (number-state e)) w
+
+-- Two outcomes that meet the contract are the same answer, the same list and the same output; a refused one leaves the same bytes.
+pub deleted-same : (code : ℕ) (l ps : List FugueSpan) (q r : DeleteAnswer) (s o t p t2 p2 : List ℕ) → Deleted code l ps q s o t p → Deleted code l ps r s o t2 p2 → (q ≡ r) × (spansOf t ≡ spansOf t2) × (headRest t ≡ headRest t2) × (code ≡ 0 → (rows (length ps) p ≡ rows (length ps) p2) × (drop (length ps * 72) p ≡ drop (length ps * 72) p2)) × ((code ≡ 0 → ⊥) → (t ≡ t2) × (p ≡ p2))
+deleted-same code l ps q r s o t p t2 p2 v w = (
+  v .answered ∙ sym (w .answered),
+  v .store .list ∙ sym (w .store .list),
+  v .store .head ∙ sym (w .store .head),
+  λ z. (v .output z .list ∙ sym (w .output z .list), v .output z .kept ∙ sym (w .output z .kept)),
+  λ z. (v .store .bytes z ∙ sym (w .store .bytes z), v .kept z ∙ sym (w .kept z)),
+)

@@ -5,7 +5,6 @@ use mathlib.Core.Bool.{Bool, true, false, cond}
 use mathlib.Core.List.{List, [], _∷_, _++_, append-assoc, append-nil}
 use mathlib.Core.Logic.{_⊎_, inl, inr}
 use native.Mathlib.Omega.{arith}
-use native.Mathlib.Numerals.{add-one}
 use native.Mathlib.Nat.{add-zero}
 use lib.Dec.{ltb}
 use lib.IntN.{ℤ}
@@ -17,11 +16,10 @@ use Rattle.span.specs.declared.ids.OptId.{OptId}
 use Rattle.span.specs.declared.ids.OptId.the-variants.{Nothing, At}
 use Rattle.span.specs.declared.span.FugueSpan.{FugueSpan}
 use Rattle.span.specs.Ids.{roomOpt}
-use Rattle.span.specs.Span.{lenSpan, idsOk, spanCode, partSpan, joinsSpan, mergedSpan}
+use Rattle.span.specs.Span.{lenSpan, idsOk, spanCode, partSpan}
 use Rattle.span.proofs.SpanLaws.{span-ok}
-use Rattle.span.proofs.Views.{len-pos}
 use Rattle.span.proofs.UnitLaws.{span-of, part-ok, part-length}
-use Rattle.span.specs.Units.{unitsOf, expand, Apart, Joined, joinOn, join}
+use Rattle.span.specs.Units.{unitsOf, expand, Joined, join}
 use Rattle.span.proofs.Unique.{AllUnits, in-range, join-joined, expand-join}
 use Rattle.span.proofs.ForRope.{span-units, list-units, expand-append, joined-is}
 use Rattle.store.specs.Row.{rows, rowAt, PutRow}
@@ -33,17 +31,15 @@ use Rattle.rope.specs.declared.change.Change.the-variants as Ch
 use Rattle.rope.specs.declared.change.Part.{Part}
 use Rattle.rope.specs.Spans.{AllOk}
 use Rattle.rope.specs.Change.{withState, orReal, deleteUnit, updateUnit}
-use Rattle.rope.specs.Pieces.{deleteCut, tookOf, CanDelete, cutOf, changeSpan, CanCut, partOf, changedOf, piecesOf}
+use Rattle.rope.specs.Pieces.{deleteCut, tookOf, cutOf, changeSpan, CanCut, partOf, changedOf, piecesOf}
 use Rattle.rope.specs.Streams.{Pushed}
 use Rattle.rope.specs.Applies.{Fit, Waiting, Grown, Moved}
 use Rattle.rope.proofs.Lists.{le-or}
 use Rattle.rope.proofs.Rights.{row-drop, row-take, row-none}
-use Rattle.rope.proofs.Borders.{merge-law, own-law, set-row}
-use Rattle.rope.proofs.Edges.{joined-right}
+use Rattle.rope.proofs.Borders.{set-row}
 use Rattle.rope.proofs.Twice.{rows-take}
-use Rattle.rope.proofs.Streaming.{units-append, push-joined, push-units}
-use Rattle.rope.proofs.Cuts.{less-room, took-most, delete-low, cut-most}
-use Rattle.rope.proofs.WellFormed.{few-rows}
+use Rattle.rope.proofs.Streaming.{units-append}
+use Rattle.rope.proofs.Cuts.{less-room, took-most, cut-most}
 
 pub lt-or : (i j : ℕ) → (i < j) ⊎ (j ≤ i)
 lt-or i zero = inr (omega arith)

@@ -11,11 +11,11 @@ use lib.Dec.{leb, ltb}
 use lib.ListN.{length, set, take, drop, length-append, length-reverse}
 use lib.Seq.{set-split, drop-at, drop-drop, length-take-le}
 use borrow.Author.Tests.{leb-true, leb-false, lt-ltb, le-ltb}
-use Rattle.words.specs.Le.{bytesOf, put}
+use Rattle.words.specs.Le.{bytesOf}
 use Rattle.words.proofs.Puts.{drop-put}
 use Rattle.span.specs.declared.span.FugueSpan.{FugueSpan}
 use Rattle.span.specs.Span.{lenSpan, spanCode, partSpan, activeLen}
-use Rattle.span.specs.Units.{tab, unitAt, unitsOf, expand}
+use Rattle.span.specs.Units.{tab, unitAt, expand}
 use Rattle.span.proofs.ListLaws.{tab-add}
 use Rattle.span.proofs.ForRope.{expand-append}
 use Rattle.store.specs.Row.{rows, rowAt, rowBytes, wordBytes, PutRow}
@@ -26,11 +26,11 @@ use Rattle.rope.specs.Place.{shown}
 use Rattle.rope.specs.Spans.{AllOk}
 use Rattle.rope.specs.Change.{touched, pieces}
 use Rattle.rope.specs.Pieces.{deleteCut, tookOf, deleteAfter, CanDelete, partOf}
-use Rattle.rope.specs.Reports.{Taken, Report, PutPart, PutUnits, Listed}
+use Rattle.rope.specs.Reports.{Report, PutPart, PutUnits, Listed}
 use Rattle.rope.proofs.Seeks.{shown-row}
 use Rattle.rope.proofs.Rights.{row-drop, row-none, row-ok}
 use Rattle.rope.proofs.Cuts.{took-most, delete-low, delete-most, can-after}
-use Rattle.rope.proofs.Queue.{lt-or, rows-on, part-some, part-none}
+use Rattle.rope.proofs.Queue.{rows-on, part-some, part-none}
 use Rattle.rope.proofs.Deletes.{part-expand, part-size}
 
 -- ---- what a delete takes of each span
@@ -62,12 +62,11 @@ module _ (d : Delete) (s : FugueSpan) where
   -- some of it is
   hit : (n : ℕ) → d .len ≡ suc n → d .at < activeLen s → (partOf s (deleteCut d s .from) (deleteCut d s .to) ≡ partSpan s (d .at) (min (activeLen s) (d .at + suc n)) ∷ []) × ((deleteAfter d s .at ≡ 0) × (deleteAfter d s .len ≡ d .at + suc n - activeLen s))
   unfolding deleteCut deleteAfter tookOf
-  hit n e h =
-      (
-        ap₂ (partOf s) (let q : min (d .at) (activeLen s) ≡ d .at = omega arith in q) (let q : min (d .at + d .len) (activeLen s) ≡ min (activeLen s) (d .at + suc n) = omega arith in q) ∙
+  hit n e h = (
+    ap₂ (partOf s) (let q : min (d .at) (activeLen s) ≡ d .at = omega arith in q) (let q : min (d .at + d .len) (activeLen s) ≡ min (activeLen s) (d .at + suc n) = omega arith in q) ∙
         part-some s (d .at) (min (activeLen s) (d .at + suc n)) (omega arith),
-        (omega arith, omega arith),
-      )
+    (omega arith, omega arith),
+  )
 
 touched-law : (d : Delete) (l : List FugueSpan) → touched l (d .at) (d .len) ≡ takes d l
 unfolding takes touched
@@ -279,18 +278,18 @@ module _ (top : ℕ) (x : FugueSpan) (from to : ℕ) (o : List ℕ) where
           sum = omega (arith, v .sum, v .low, p);
           same = len ∙ v .same;
           list = λ n k m. (
-            let lt : t - 1 < n = omega (arith, v .sum, p, m) in
-            let z : u + 1 - from ≡ u - from + 1 = omega (arith, v .low) in
-            let a : from + (u - from) ≡ u = omega (arith, v .low) in
-            let b : suc (t - 1) ≡ t = omega (arith, p) in
-            ap (drop (t - 1)) (w .list n (omega (arith, k, v .same)) lt) ∙
-            (drop-set (rows n out) (t - 1) y (subst (λ (q : ℕ). t - 1 < q) (sym (length-rows n out)) lt) ∙
-            (ap₂ (λ (q : FugueSpan) (c : ℕ). q ∷ drop c (rows n out)) (e ∙ ap (partSpan x u) (add-one u)) b ∙
-            (ap (λ (l : List FugueSpan). unitAt x u ∷ l) (v .list n k m) ∙
-            sym (ap (λ (c : ℕ). reverse (tab (unitAt x) from c) ++ drop top (rows n o)) z ∙
-            (ap (λ (l : List FugueSpan). l ++ drop top (rows n o)) (turn-back (unitAt x) from (u - from)) ∙
-            ap (λ (c : ℕ). unitAt x c ∷ (reverse (tab (unitAt x) from (u - from)) ++ drop top (rows n o))) a)))))
-          );
+              let lt : t - 1 < n = omega (arith, v .sum, p, m) in
+              let z : u + 1 - from ≡ u - from + 1 = omega (arith, v .low) in
+              let a : from + (u - from) ≡ u = omega (arith, v .low) in
+              let b : suc (t - 1) ≡ t = omega (arith, p) in
+              ap (drop (t - 1)) (w .list n (omega (arith, k, v .same)) lt) ∙
+              (drop-set (rows n out) (t - 1) y (subst (λ (q : ℕ). t - 1 < q) (sym (length-rows n out)) lt) ∙
+              (ap₂ (λ (q : FugueSpan) (c : ℕ). q ∷ drop c (rows n out)) (e ∙ ap (partSpan x u) (add-one u)) b ∙
+              (ap (λ (l : List FugueSpan). unitAt x u ∷ l) (v .list n k m) ∙
+              sym (ap (λ (c : ℕ). reverse (tab (unitAt x) from c) ++ drop top (rows n o)) z ∙
+              (ap (λ (l : List FugueSpan). l ++ drop top (rows n o)) (turn-back (unitAt x) from (u - from)) ∙
+              ap (λ (c : ℕ). unitAt x c ∷ (reverse (tab (unitAt x) from (u - from)) ++ drop top (rows n o))) a)))))
+              );
           kept = λ n k m. past-row (t - 1) y out r (omega (arith, v .sum, v .same, p, room)) w n (omega (arith, v .sum, p, m)) ∙ v .kept n k m;
         }
 
@@ -373,10 +372,13 @@ module _ (d : Delete) (n : ℕ) (s o : List ℕ) where
       shown-now = ap (λ (l : List FugueSpan). shown (expand l)) (row-drop n s i h) ∙ shown-row y E
 
       pub back-asks : (p : Part) → p ≡ deleteCut left y → d .len * 72 ≤ length o → (p .from ≤ p .to) × ((p .to ≤ lenSpan y) × ((p .to - p .from ≤ left .len) × (left .len * 72 ≤ length out)))
-      back-asks p e room =
-          (subst (λ (q : Part). q .from ≤ q .to) (sym e) (delete-low left y),
-          (subst (λ (q : Part). q .to ≤ lenSpan y) (sym e) (delete-most left y),
-          (subst (λ (q : Part). q .to - q .from ≤ left .len) (sym e) (took left y), omega (arith, v .few, v .same, room))))
+      back-asks p e room = (
+        subst (λ (q : Part). q .from ≤ q .to) (sym e) (delete-low left y),
+        (
+          subst (λ (q : Part). q .to ≤ lenSpan y) (sym e) (delete-most left y),
+          (subst (λ (q : Part). q .to - q .from ≤ left .len) (sym e) (took left y), omega (arith, v .few, v .same, room)),
+        ),
+      )
 
       pub back-turn : (p : Part) (next : Delete) (t : List ℕ) → p ≡ deleteCut left y → next ≡ deleteAfter left y → length t ≡ length out → d .len * 72 ≤ length o → PutUnits (left .len) y (p .from) (p .to) out t → Back d n s o next (i + 1) t
       back-turn p next t ep en len room w =

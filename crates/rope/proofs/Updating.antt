@@ -2,18 +2,18 @@
 use Prim.Native.Nat.{ℕ, zero, suc, _+_, _-_, _*_, _<_, _≤_, min}
 use mathlib.Core.Path.{_≡_, refl, sym, ap, ap₂, subst, _∙_}
 use mathlib.Core.Bool.{Bool, true, false, not, _&&_, _||_, cond, true≢false, false≢true}
-use mathlib.Core.List.{List, [], _∷_, _++_, map, map-append, append-assoc, append-nil}
+use mathlib.Core.List.{List, [], _∷_, _++_, map, map-append, append-nil}
 use mathlib.Core.Logic.{_⊎_, inl, inr}
 use native.Mathlib.Omega.{arith}
 use native.Mathlib.Nat.{add-zero, zero-add}
 use lib.Dec.{ltb, leb, eqb}
-use lib.IntN.{ℤ, pos, negsuc, _+ℤ_}
+use lib.IntN.{ℤ, pos, _+ℤ_}
 use lib.Signed.{leZ, ltZ}
-use lib.ListN.{length, length-append}
+use lib.ListN.{length, drop, length-append}
+use Rattle.rope.proofs.Rights.{row-drop, row-none}
 use borrow.Author.Tests.{lt-ltb, le-ltb, le-leb, lt-leb, eqb-true}
-use Rattle.span.specs.declared.ids.Id.{Id}
 use Rattle.span.specs.declared.ids.OptId.{OptId}
-use Rattle.span.specs.declared.ids.OptId.the-variants.{Nothing, At}
+use Rattle.span.specs.declared.ids.OptId.the-variants.{At}
 use Rattle.span.specs.declared.span.FugueSpan.{FugueSpan}
 use Rattle.span.specs.Ids.{id, incId}
 use Rattle.span.proofs.IdsLaws.{Room, roomy}
@@ -23,17 +23,16 @@ use Rattle.span.proofs.SpanLaws.{span-ok}
 use Rattle.span.specs.Units.{tab, unitAt, unitsOf, expand, join}
 use Rattle.span.proofs.ListLaws.{tab-add}
 use Rattle.span.proofs.ForRope.{expand-append}
-use Rattle.store.specs.Row.{rows}
+use Rattle.store.specs.Row.{rows, rowAt}
 use Rattle.store.proofs.Laws.{length-rows}
 use Rattle.rope.specs.declared.change.SetFuture.{SetFuture}
 use Rattle.rope.specs.declared.change.Update.{Update}
-use Rattle.rope.specs.declared.change.Change.{Change}
 use Rattle.rope.specs.declared.change.Change.the-variants as Ch
 use Rattle.rope.specs.declared.change.Part.{Part}
 use Rattle.rope.specs.Place.{memId, Distinct}
-use Rattle.rope.specs.Spans.{AllOk, covered}
+use Rattle.rope.specs.Spans.{AllOk}
 use Rattle.rope.specs.Lists.{every}
-use Rattle.rope.specs.Change.{withState, changeStatus, baseOf, updateUnit, inRange, updateUnits}
+use Rattle.rope.specs.Change.{withState, baseOf, updateUnit, inRange, updateUnits}
 use Rattle.rope.specs.Codes.{countsFit}
 use Rattle.rope.specs.Pieces.{part, partAt, partFrom, updateCut, CanCut, CanChange, cutOf, afterOf, changeSpan, partOf, changedOf, piecesOf, allPieces}
 use Rattle.rope.specs.Applies.{Fit, AllFit, Applies, Updates}
@@ -42,8 +41,8 @@ use Rattle.rope.proofs.Offsets.{covers-units}
 use Rattle.rope.proofs.Apart.{covered-unit}
 use Rattle.rope.proofs.Inserts.{part-units}
 use Rattle.rope.proofs.Cuts.{cut-by, update-most}
-use Rattle.rope.proofs.Queue.{lt-or, part-some, part-none, changed-some, changed-none}
-use Rattle.rope.proofs.Deletes.{part-expand, pieces-size}
+use Rattle.rope.proofs.Queue.{lt-or, changed-some, changed-none}
+use Rattle.rope.proofs.Deletes.{part-expand, pieces-size, once, none}
 
 -- ---- an updated piece, unit by unit
 
@@ -216,6 +215,18 @@ module _ (u : Update) (s : FugueSpan) (ok : spanCode s ≡ 0) where
           subst (λ (p : Part). inRange (u .peer) (pos (u .from)) (pos (u .to)) (unitAt s (p .from)) ≡ true) (sym (cut-own e))
           (false-by (min (u .from - c) L) true true true e (le-leb (u .from) (c + min (u .from - c) L) (omega arith)) (lt-ltb (c + min (u .from - c) L) (u .to) (omega arith)))
 
+  -- no unit is in the range where the cut is empty
+  pub out-cut : u .from ≤ u .to → updateCut u s .to ≤ updateCut u s .from → (i : ℕ) → i < L → inRange (u .peer) (pos (u .from)) (pos (u .to)) (unitAt s i) ≡ false
+  out-cut order k i h = go (eqb (s .id .peer) (u .peer)) refl
+    where
+      go : (t : Bool) → eqb (s .id .peer) (u .peer) ≡ t → inRange (u .peer) (pos (u .from)) (pos (u .to)) (unitAt s i) ≡ false
+      go false e = in-by false e i
+      go true e = side (subst (λ (p : Part). p .to ≤ p .from) (cut-own e) k) (lt-or (c + i) (u .from))
+        where
+          side : min (u .to - c) L ≤ min (u .from - c) L → (c + i < u .from) ⊎ (u .from ≤ c + i) → inRange (u .peer) (pos (u .from)) (pos (u .to)) (unitAt s i) ≡ false
+          side z (inl m) = false-by i true false (ltb (c + i) (u .to)) e (lt-leb (u .from) (c + i) m) refl
+          side z (inr m) = false-by i true (leb (u .from) (c + i)) false e refl (le-ltb (c + i) (u .to) (omega arith)) ∙ and-false (leb (u .from) (c + i))
+
   -- ---- the cuts
 
   -- the unit at an inner cut has the id of the cut
@@ -306,6 +317,75 @@ update-fits u (s ∷ l) ok e =
     let p = every-append (λ (v : FugueSpan). not (inRange (u .peer) (pos (u .from)) (pos (u .to)) v) || inI16 (baseOf (u .diff) v .«delete_times» +ℤ u .change)) (unitsOf s) (expand l) e in
     (fit-update u s (ok .0) (p .0), update-fits u l (ok .1) (p .1))
 
+-- ---- whether the counts fit, row by row
+
+every-both : (t : FugueSpan → Bool) (a b : List FugueSpan) → every t (a ++ b) ≡ (every t a && every t b)
+unfolding every
+every-both t [] b = refl
+every-both t (x ∷ a) b = ap (λ (z : Bool). t x && z) (every-both t a b) ∙ and-assoc (t x) (every t a) (every t b)
+  where
+    and-assoc : (x y z : Bool) → (x && (y && z)) ≡ (x && y && z)
+    and-assoc true y z = refl
+    and-assoc false y z = refl
+
+all-tab : (t : FugueSpan → Bool) (f : ℕ → FugueSpan) (j n : ℕ) → ((i : ℕ) → j ≤ i → i < j + n → t (f i) ≡ true) → every t (tab f j n) ≡ true
+unfolding every tab
+all-tab t f j zero h = refl
+all-tab t f j (suc n) h = ap₂ (λ (a b : Bool). a && b) (h j (omega arith) (omega arith)) (all-tab t f (suc j) n (λ i p q. h i (omega arith) (omega arith)))
+
+-- one that fails
+one-tab : (t : FugueSpan → Bool) (f : ℕ → FugueSpan) (n k : ℕ) → k < n → t (f k) ≡ false → every t (tab f 0 n) ≡ false
+one-tab t f n k h e = go (every t (tab f 0 n)) refl
+  where
+    go : (b : Bool) → every t (tab f 0 n) ≡ b → every t (tab f 0 n) ≡ false
+    go false q = q
+    go true q = absurd (true≢false (sym (ap (λ (m : ℕ). t (f m)) (sym (zero-add k)) ∙ every-tab t f 0 n q k h) ∙ e))
+
+or-true : (a b : Bool) → b ≡ true → (a || b) ≡ true
+or-true true b e = refl
+or-true false b e = e
+
+module _ (u : Update) (s : FugueSpan) (ok : spanCode s ≡ 0) (order : u .from ≤ u .to) where
+  abbrev fine : Bool
+  fine = inI16 (baseOf (u .diff) s .«delete_times» +ℤ u .change)
+
+  abbrev test : FugueSpan → Bool
+  test = λ (v : FugueSpan). not (inRange (u .peer) (pos (u .from)) (pos (u .to)) v) || inI16 (baseOf (u .diff) v .«delete_times» +ℤ u .change)
+
+  same-base : (i : ℕ) → inI16 (baseOf (u .diff) (unitAt s i) .«delete_times» +ℤ u .change) ≡ fine
+  unfolding baseOf shift
+  same-base i = refl
+
+  pub row-empty : updateCut u s .to ≤ updateCut u s .from → true ≡ countsFit (u .peer) (pos (u .from)) (pos (u .to)) (u .change) (u .diff) (unitsOf s)
+  unfolding countsFit unitsOf
+  row-empty k = sym (all-tab test (unitAt s) 0 (lenSpan s) (λ i p q. ap (λ (b : Bool). not b || inI16 (baseOf (u .diff) (unitAt s i) .«delete_times» +ℤ u .change)) (out-cut u s ok order k i (omega arith))))
+
+  pub row-some : updateCut u s .from < updateCut u s .to → fine ≡ countsFit (u .peer) (pos (u .from)) (pos (u .to)) (u .change) (u .diff) (unitsOf s)
+  unfolding countsFit unitsOf
+  row-some k = go fine refl
+    where
+      go : (t : Bool) → fine ≡ t → fine ≡ every test (tab (unitAt s) 0 (lenSpan s))
+      go true e = e ∙ sym (all-tab test (unitAt s) 0 (lenSpan s) (λ i p q. or-true (not (inRange (u .peer) (pos (u .from)) (pos (u .to)) (unitAt s i))) (inI16 (baseOf (u .diff) (unitAt s i) .«delete_times» +ℤ u .change)) (same-base i ∙ e)))
+      go false e =
+          e ∙ sym (one-tab test (unitAt s) (lenSpan s) (updateCut u s .from) (omega (arith, k, update-most u s .1))
+          (ap₂ (λ (b d : Bool). not b || d) (in-cut u s ok k) (same-base (updateCut u s .from) ∙ e)))
+
+pub fits-row : (u : Update) (s : FugueSpan) (l : List FugueSpan) → countsFit (u .peer) (pos (u .from)) (pos (u .to)) (u .change) (u .diff) (expand (s ∷ l)) ≡ (countsFit (u .peer) (pos (u .from)) (pos (u .to)) (u .change) (u .diff) (unitsOf s) && countsFit (u .peer) (pos (u .from)) (pos (u .to)) (u .change) (u .diff) (expand l))
+unfolding countsFit expand
+fits-row u s l = every-both (λ (v : FugueSpan). not (inRange (u .peer) (pos (u .from)) (pos (u .to)) v) || inI16 (baseOf (u .diff) v .«delete_times» +ℤ u .change)) (unitsOf s) (expand l)
+
+module _ (u : Update) (n : ℕ) (s : List ℕ) (i : ℕ) where
+  abbrev all : List FugueSpan → Bool
+  all l = countsFit (u .peer) (pos (u .from)) (pos (u .to)) (u .change) (u .diff) (expand l)
+
+  pub fits-turn : i < n → (t : Bool) → countsFit (u .peer) (pos (u .from)) (pos (u .to)) (u .change) (u .diff) (unitsOf (rowAt s (i * 72))) ≡ t → all (drop i (rows n s)) ≡ (t && all (drop (i + 1) (rows n s)))
+  fits-turn h t e =
+      ap all (row-drop n s i h) ∙ (fits-row u (rowAt s (i * 72)) (drop (i + 1) (rows n s)) ∙ ap (λ (b : Bool). b && all (drop (i + 1) (rows n s))) e)
+
+  pub fits-done : n ≤ i → all (drop i (rows n s)) ≡ true
+  unfolding countsFit every expand
+  fits-done h = ap all (row-none n s i h)
+
 -- ---- it cuts at most twice
 
 -- whether a cut at y is inside n units
@@ -323,12 +403,6 @@ inner-some y n h = (omega arith, omega arith)
 inner-one : (y n : ℕ) → inner y n ≤ 1
 unfolding inner
 inner-one y n = omega arith
-
-once : (x : ℕ) → min 1 x ≤ 1
-once x = omega arith
-
-none : (x : ℕ) → x ≡ 0 → min 1 x ≡ 0
-none x h = omega arith
 
 three-bits : (f t n : ℕ) → f ≤ t → t ≤ n → min 1 f + (min 1 (t - f) + min 1 (n - t)) ≤ 1 + (inner f n + inner t n)
 three-bits f t n h k = go (lt-or 0 f) (lt-or f n) (lt-or 0 t) (lt-or t n)

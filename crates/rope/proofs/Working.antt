@@ -1,5 +1,5 @@
 -- a change that goes through a list: what holds between two rows, a row done, the end
-use Prim.Native.Nat.{ℕ, zero, suc, _+_, _-_, _*_, _<_, _≤_}
+use Prim.Native.Nat.{ℕ, _+_, _-_, _*_, _<_, _≤_}
 use mathlib.Core.Path.{_≡_, refl, sym, ap, ap₂, subst, _∙_}
 use mathlib.Core.Bool.{Bool, true, false, cond}
 use mathlib.Core.List.{List, [], _∷_, _++_, append-assoc, append-nil}
@@ -8,25 +8,22 @@ use native.Mathlib.Omega.{arith}
 use lib.ListN.{length, take, drop, length-append, length-drop}
 use lib.Seq.{drop-drop}
 use Rattle.span.specs.declared.span.FugueSpan.{FugueSpan}
-use Rattle.span.specs.Span.{lenSpan, spanCode, partSpan, joinsSpan, mergedSpan}
+use Rattle.span.specs.Span.{lenSpan, spanCode, joinsSpan, mergedSpan}
 use Rattle.span.proofs.SpanLaws.{span-ok}
 use Rattle.span.proofs.Views.{len-pos}
 use Rattle.span.specs.Units.{unitsOf, expand, Apart, Joined, joinOn, join}
-use Rattle.span.proofs.Unique.{AllUnits, join-joined, expand-join}
-use Rattle.span.proofs.ForRope.{list-units, expand-append, joined-is}
+use Rattle.span.proofs.ForRope.{expand-append, joined-is}
 use Rattle.store.specs.Row.{rows, rowAt}
 use Rattle.store.proofs.Laws.{length-rows}
 use Rattle.rope.specs.declared.change.Change.{Change}
 use Rattle.rope.specs.Spans.{AllOk}
-use Rattle.rope.specs.Pieces.{cutOf, afterOf, partOf, changedOf, piecesOf, allPieces, CanCut}
-use Rattle.rope.specs.Applies.{Fit, AllFit, Waiting, Grown, Applies, Moved}
-use Rattle.rope.proofs.Lists.{le-or}
+use Rattle.rope.specs.Pieces.{cutOf, afterOf, partOf, changedOf, piecesOf, allPieces}
+use Rattle.rope.specs.Applies.{Fit, AllFit, Grown, Applies, Moved}
 use Rattle.rope.proofs.Rights.{row-drop, row-none}
 use Rattle.rope.proofs.Borders.{merge-law, own-law, split}
 use Rattle.rope.proofs.Edges.{joined-right}
 use Rattle.rope.proofs.Streaming.{push-joined, push-units}
-use Rattle.rope.proofs.Cuts.{cut-most}
-use Rattle.rope.proofs.Queue.{lt-or, part-some, part-none, changed-some, changed-none, pieces-fine, grown-joined, grown-units}
+use Rattle.rope.proofs.Queue.{lt-or, part-some, changed-some, pieces-fine, grown-joined, grown-units}
 use Rattle.rope.proofs.WellFormed.{few-rows}
 
 -- ---- a push touches the last row only
@@ -140,15 +137,6 @@ pieces-most e (s ∷ l) f =
     let b = pieces-most (afterOf e s) l (f .1) in
     let k : length (piecesOf e s ++ allPieces (afterOf e s) l) ≡ length (piecesOf e s) + length (allPieces (afterOf e s) l) = length-append (piecesOf e s) (allPieces (afterOf e s) l) in
     omega arith
-
-pub all-fine : (e : Change) (l : List FugueSpan) → AllFit e l → AllOk (allPieces e l)
-unfolding AllFit allPieces AllOk
-all-fine e [] f = tt
-all-fine e (s ∷ l) f = both (piecesOf e s) (allPieces (afterOf e s) l) (pieces-fine e s (f .0)) (all-fine (afterOf e s) l (f .1))
-  where
-    both : (a b : List FugueSpan) → AllOk a → AllOk b → AllOk (a ++ b)
-    both [] b x y = y
-    both (u ∷ a) b x y = (x .0, both a b (x .1) y)
 
 join-some : (us : List FugueSpan) → 0 < length us → 0 < length (join us)
 unfolding join joinOn

@@ -15,11 +15,11 @@ use Rattle.rope.specs.Change.{deleteUnits, updateUnits}
 use Rattle.rope.specs.Codes.{countsFit}
 use Rattle.span.specs.declared.span.FugueSpan.{FugueSpan}
 use Rattle.span.specs.declared.ids.OptId.the-variants.{At}
-use Rattle.span.specs.Span.{lenSpan, spanCode, partSpan}
+use Rattle.span.specs.Span.{spanCode, partSpan}
 use Rattle.span.specs.Units.{expand, Joined, join}
 use Rattle.store.specs.Row.{rows}
 use Rattle.rope.specs.declared.change.Change.{Change}
-use Rattle.rope.specs.Pieces.{cutOf, afterOf, changeSpan, CanCut, CanChange, allPieces}
+use Rattle.rope.specs.Pieces.{cutOf, afterOf, CanCut, CanChange, allPieces}
 
 -- a change can be made in a span
 pub record Fit (e : Change) (s : FugueSpan) : Type 0 where

@@ -20,7 +20,6 @@ use Rattle.rope.specs.Place.{shown}
 use Rattle.rope.specs.Store.{room, spansOf, isState}
 use Rattle.rope.specs.Change.{deleteUnits, pieces}
 use Rattle.rope.specs.Codes.{unless, deleteCode}
-use Rattle.rope.specs.Spans.{Stored}
 use Rattle.rope.specs.Reports.{Report, Listed}
 use Rattle.rope.specs.Edits.{Edited}
 

@@ -48,7 +48,14 @@ pub enum DeleteAnswer {
 }
 
 // What refuses the delete of some units in a well formed list: `most` is the room for rows, `places` that of the output.
-pub fn refuse_delete(s: &[u8], n: usize, d: Delete, most: usize, places: usize, reversed: bool) -> u8
+pub fn refuse_delete(
+    s: &[u8],
+    n: usize,
+    d: Delete,
+    most: usize,
+    places: usize,
+    reversed: bool,
+) -> u8
     requires { ⌜ Stored n (now s) × (n ≤ 65536) ⌝ }
     ensures { λ r. ⌜ r ≡ deleteRest most places (rows n (now (s .entry))) d reversed ⌝ }
 {

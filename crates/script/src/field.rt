@@ -1,4 +1,7 @@
 // The fields of a call, each read from its word. A word that does not say one is `Bad`.
+ghost use mathlib.Core.Path.{_≡_};
+ghost use Rattle.text.specs.Parts.{parts};
+ghost use Rattle.script.specs.Field.{wordOf, numberOf, peerOf, idFrom, idWord, optWord, statusFrom, statusWord, diffWord, changeWord, flagWord, rawFrom, reservedBy, twoWords, threeWords, chunkOf};
 use span::chunk::RichtextChunk;
 use span::ids::Id;
 use span::ids::OptId;
@@ -60,22 +63,30 @@ pub enum ChangeField {
 }
 
 // Word i of a line: empty, where there are not so many.
-pub fn word(line: &[u8], i: usize) -> &[u8] {
+pub fn word(line: &[u8], i: usize) -> &[u8]
+    ensures { λ r. ⌜ now r ≡ wordOf (now (line .entry)) i ⌝ }
+{
     part(line, b' ', i)
 }
 
 // How many words a line has.
-pub fn words(line: &[u8]) -> usize {
+pub fn words(line: &[u8]) -> usize
+    ensures { λ r. ⌜ r ≡ parts 32 (now (line .entry)) ⌝ }
+{
     parts(line, b' ')
 }
 
 // A u32.
-pub fn number(w: &[u8]) -> Number32 {
+pub fn number(w: &[u8]) -> Number32
+    ensures { λ r. ⌜ r ≡ numberOf (now (w .entry)) ⌝ }
+{
     to_u32(decimal(w, 4294967295))
 }
 
 // A decimal u64, or `U` for the unknown peer.
-pub fn peer(w: &[u8]) -> Number {
+pub fn peer(w: &[u8]) -> Number
+    ensures { λ r. ⌜ r ≡ peerOf (now (w .entry)) ⌝ }
+{
     if same(w, b"U") {
         Number::Is(UNKNOWN_PEER)
     } else {
@@ -84,7 +95,9 @@ pub fn peer(w: &[u8]) -> Number {
 }
 
 // A peer with a counter from another word.
-pub fn id_of(p: &[u8], c: &[u8]) -> IdField {
+pub fn id_of(p: &[u8], c: &[u8]) -> IdField
+    ensures { λ r. ⌜ r ≡ idFrom (now (p .entry)) (now (c .entry)) ⌝ }
+{
     let Number::Is(peer) = peer(p) else {
         return IdField::Bad;
     };
@@ -95,12 +108,16 @@ pub fn id_of(p: &[u8], c: &[u8]) -> IdField {
 }
 
 // PEER.COUNTER
-pub fn id(w: &[u8]) -> IdField {
+pub fn id(w: &[u8]) -> IdField
+    ensures { λ r. ⌜ r ≡ idWord (now (w .entry)) ⌝ }
+{
     id_of(before(w, b'.'), after(w, b'.'))
 }
 
 // An id, or `-` for none.
-pub fn opt_id(w: &[u8]) -> OptIdField {
+pub fn opt_id(w: &[u8]) -> OptIdField
+    ensures { λ r. ⌜ r ≡ optWord (now (w .entry)) ⌝ }
+{
     if same(w, b"-") {
         return OptIdField::Is(OptId::Nothing);
     }
@@ -110,7 +127,9 @@ pub fn opt_id(w: &[u8]) -> OptIdField {
     }
 }
 
-fn status_of(future: bool, w: &[u8]) -> StatusField {
+fn status_of(future: bool, w: &[u8]) -> StatusField
+    ensures { λ r. ⌜ r ≡ statusFrom future (now (w .entry)) ⌝ }
+{
     match to_u16(signed(w, 32767)) {
         Number16::Is(times) => StatusField::Is(store::status_of(future, times)),
         Number16::Nothing => StatusField::Bad,
@@ -118,7 +137,9 @@ fn status_of(future: bool, w: &[u8]) -> StatusField {
 }
 
 // now:COUNT or future:COUNT
-pub fn status(w: &[u8]) -> StatusField {
+pub fn status(w: &[u8]) -> StatusField
+    ensures { λ r. ⌜ r ≡ statusWord (now (w .entry)) ⌝ }
+{
     let name = before(w, b':');
     if same(name, b"now") {
         return status_of(false, after(w, b':'));
@@ -130,7 +151,9 @@ pub fn status(w: &[u8]) -> StatusField {
 }
 
 // A status, or `-` for none.
-pub fn opt_status(w: &[u8]) -> OptStatusField {
+pub fn opt_status(w: &[u8]) -> OptStatusField
+    ensures { λ r. ⌜ r ≡ diffWord (now (w .entry)) ⌝ }
+{
     if same(w, b"-") {
         return OptStatusField::Is(OptStatus::Nothing);
     }
@@ -141,7 +164,9 @@ pub fn opt_status(w: &[u8]) -> OptStatusField {
 }
 
 // An i16.
-pub fn change(w: &[u8]) -> ChangeField {
+pub fn change(w: &[u8]) -> ChangeField
+    ensures { λ r. ⌜ r ≡ changeWord (now (w .entry)) ⌝ }
+{
     match to_u16(signed(w, 32767)) {
         Number16::Is(bits) => ChangeField::Is(words::signed::int16(bits)),
         Number16::Nothing => ChangeField::Bad,
@@ -149,7 +174,9 @@ pub fn change(w: &[u8]) -> ChangeField {
 }
 
 // 0 or 1, as they stand
-pub fn flag(w: &[u8]) -> FlagField {
+pub fn flag(w: &[u8]) -> FlagField
+    ensures { λ r. ⌜ r ≡ flagWord (now (w .entry)) ⌝ }
+{
     if same(w, b"0") {
         return FlagField::Is(false);
     }
@@ -160,7 +187,9 @@ pub fn flag(w: &[u8]) -> FlagField {
 }
 
 // Any two numbers as a chunk.
-pub fn raw(a: &[u8], b: &[u8]) -> ChunkField {
+pub fn raw(a: &[u8], b: &[u8]) -> ChunkField
+    ensures { λ r. ⌜ r ≡ rawFrom (now (a .entry)) (now (b .entry)) ⌝ }
+{
     let Number32::Is(start) = number(a) else {
         return ChunkField::Bad;
     };
@@ -174,7 +203,9 @@ pub fn raw(a: &[u8], b: &[u8]) -> ChunkField {
 }
 
 // A chunk of a reserved start and a number.
-fn reserved(start: u32, w: &[u8]) -> ChunkField {
+fn reserved(start: u32, w: &[u8]) -> ChunkField
+    ensures { λ r. ⌜ r ≡ reservedBy start (numberOf (now (w .entry))) ⌝ }
+{
     match number(w) {
         Number32::Is(end) => ChunkField::Is(RichtextChunk {
             start: start,
@@ -185,7 +216,9 @@ fn reserved(start: u32, w: &[u8]) -> ChunkField {
 }
 
 // unknown N, start I or end I
-fn two_words(name: &[u8], n: &[u8]) -> ChunkField {
+fn two_words(name: &[u8], n: &[u8]) -> ChunkField
+    ensures { λ r. ⌜ r ≡ twoWords (now (name .entry)) (now (n .entry)) ⌝ }
+{
     if same(name, b"unknown") {
         return reserved(RichtextChunk::UNKNOWN, n);
     }
@@ -199,7 +232,9 @@ fn two_words(name: &[u8], n: &[u8]) -> ChunkField {
 }
 
 // text A B or raw A B
-fn three_words(name: &[u8], a: &[u8], b: &[u8]) -> ChunkField {
+fn three_words(name: &[u8], a: &[u8], b: &[u8]) -> ChunkField
+    ensures { λ r. ⌜ r ≡ threeWords (now (name .entry)) (now (a .entry)) (now (b .entry)) ⌝ }
+{
     if same(name, b"text") {
         return raw(a, b);
     }
@@ -210,7 +245,9 @@ fn three_words(name: &[u8], a: &[u8], b: &[u8]) -> ChunkField {
 }
 
 // A chunk of one to three words.
-pub fn chunk(t: &[u8]) -> ChunkField {
+pub fn chunk(t: &[u8]) -> ChunkField
+    ensures { λ r. ⌜ r ≡ chunkOf (now (t .entry)) ⌝ }
+{
     let name = word(t, 0);
     match words(t) {
         1 => {

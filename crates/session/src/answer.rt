@@ -48,7 +48,8 @@ fn on_rope(s: Session, c: RopeCall, store: &mut [u8], out: &mut [u8], text: &mut
         Open::Nothing => error(s, text),
         Open::Rope => {
             let n = reply::within(bytes_of(s.lent), store);
-            s.said(calls::call(c, &mut store[..n], out, text, s.at))
+            let m = reply::within(72 * (s.out as usize), out);
+            s.said(calls::call(c, &mut store[..n], &mut out[..m], text, s.at))
         }
     }
 }

@@ -13,6 +13,26 @@ fn clear(s: &mut [u8], text: &mut [u8], at: usize) -> usize {
     reply::done(text, at, code)
 }
 
+// piece LEN SPAN, for row i of those that a delete put out
+fn piece(out: &[u8], i: usize, text: &mut [u8], at: usize) -> usize {
+    if i < out.len() / 72 {
+        reply::span(text, at, b"piece", store::get_row(out, i))
+    } else {
+        at
+    }
+}
+
+// The n pieces that a delete put out.
+pub fn pieces(out: &[u8], n: usize, text: &mut [u8], start: usize) -> usize {
+    let mut at = reply::counted(text, start, b"pieces", n as u64);
+    let mut i = 0;
+    while i < n {
+        at = piece(out, i, text, at);
+        i += 1;
+    }
+    at
+}
+
 pub fn call(c: RopeCall, s: &mut [u8], out: &mut [u8], text: &mut [u8], at: usize) -> usize {
     match c {
         RopeCall::Insert(x) => insert(x, s, text, at),

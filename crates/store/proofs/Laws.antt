@@ -1,19 +1,17 @@
 -- what was put in a row is read back, and no other row changes: the abstraction's laws
 use mathlib.Core.Path.{_≡_, refl, sym, ap, _∙_}
 use mathlib.Core.Bool.{Bool, true, false}
-use mathlib.Core.List.{List, [], _∷_, _++_, append-assoc}
-use Prim.Native.Nat.{ℕ, zero, suc, _+_, _-_, _*_, _/_, _%_, _^_, _≤_, _<_}
+use mathlib.Core.List.{List, _++_, append-assoc}
+use Prim.Native.Nat.{ℕ, zero, suc, _+_, _-_, _*_, _/_, _%_, _≤_, _<_}
 use native.Mathlib.Omega.{arith}
 use native.Mathlib.Nat.{add-zero}
 use lib.ListN.{length, getD, set, take, drop, length-set}
 use lib.Seq.{ext-getD, getD-set-same, getD-set-other, drop-drop, drop-at, length-take-le}
-use lib.IntN.{ℤ}
-use lib.Dec.{eqb, leb}
 use mir.Syntax.{w16, w32}
-use mir.Val.{SFits, toZ, ofZ, Fits}
+use mir.Val.{SFits}
 use mir.Facts.{toZ-ofZ}
 use mir.ValLaws.{ofZ-fits}
-use borrow.Author.Tests.{eq-eqb, ne-eqb, le-leb, lt-leb, eqb-false}
+use borrow.Author.Tests.{eq-eqb, ne-eqb}
 use Rattle.words.specs.Le.{le, bytesOf, put}
 use Rattle.words.proofs.Puts.{le-bytes, part-before, part-after}
 use Rattle.store.specs.declared.Words.{Words}

@@ -1,15 +1,14 @@
 -- rows that moved up by one
-use mathlib.Core.Path.{_≡_, refl, sym, ap, _∙_}
-use mathlib.Core.List.{List, [], _∷_, _++_}
-use Prim.Native.Nat.{ℕ, zero, suc, _+_, _-_, _*_, _≤_, _<_}
+use mathlib.Core.Path.{_≡_, sym, ap, _∙_}
+use mathlib.Core.List.{List, _∷_, _++_}
+use Prim.Native.Nat.{ℕ, suc, _+_, _-_, _*_, _≤_, _<_}
 use native.Mathlib.Omega.{arith}
-use native.Mathlib.Numerals.{add-one}
-use lib.ListN.{length, getD, set, take, drop, length-take, length-drop}
+use lib.ListN.{length, getD, set, take, drop, length-drop}
 use lib.Seq.{ext-getD, getD-take, getD-drop, length-take-le, set-split}
 use Rattle.words.specs.Le.{put}
 use Rattle.words.proofs.Puts.{part-before, part-inside, part-part}
 use Rattle.span.specs.declared.span.FugueSpan.{FugueSpan}
-use Rattle.store.specs.Row.{rows, rowAt, wordsAt, spanOf}
+use Rattle.store.specs.Row.{rows, rowAt, spanOf}
 use Rattle.store.proofs.Laws.{rows-at, length-rows, words-moved}
 
 module _ (s : List ℕ) (n i : ℕ) (x : FugueSpan) (room : n * 72 + 72 ≤ length s) (hi : i ≤ n) where

@@ -16,7 +16,7 @@ fn main() {
     let words: Vec<&str> = args.iter().map(String::as_str).collect();
     let number = |i: usize, default: u64| words.get(i).map_or(default, |w| w.parse().expect("a number"));
     let good = match words[..] {
-        ["rows", ..] => rows::run(number(1, 5000), number(2, 1)),
+        ["rows", ..] => rows::run(number(1, 1000), number(2, 1)),
         ["bytes", ..] => bytes::run(number(1, 200), number(2, 1)),
         _ => {
             eprintln!("usage: damaged rows [STORES [SEED]] | bytes [SCRIPTS [SEED]]");

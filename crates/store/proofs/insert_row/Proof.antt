@@ -5,40 +5,28 @@ use mathlib.Core.Path.{_∙_}
 use borrow.Author.Needs.{needs}
 use Rattle.store.proofs.insert_row.Statement.{statement}
 use Rattle.store.proofs.insert_row.Tie as tie
-use Rattle.store.proofs.insert_row.Reads as reads
-use Rattle.store.proofs.insert_row.Lts as lts
-use Rattle.words.proofs.shift.up.Reads as up-reads
-use Rattle.store.proofs.put_row.Reads as put-row-reads
 
--- src/lib.rt:302:18
 mul-up : tie.Need-mul-up
 mul-up c = search needs
 
--- src/lib.rt:302:26
 mul-up-2 : tie.Need-mul-up-2
 mul-up-2 c = search needs
 
--- src/lib.rt:302:35
 mul-up-3 : tie.Need-mul-up-3
 mul-up-3 c = search needs
 
--- src/lib.rt:302:26
 sub-up : tie.Need-sub-up
 sub-up c = search needs
 
--- src/lib.rt:302:5
 up-requires : tie.Need-up-requires
 up-requires c κs = search needs
 
--- src/lib.rt:303:5
 put-row-requires : tie.Need-put-row-requires
 put-row-requires c κs = search needs
 
--- src/lib.rt:298:1
 same-length : tie.Need-same-length
 same-length c = search needs
 
--- src/lib.rt:298:1
 returns : tie.Need-returns
 returns c = let u = c .before .before .before .before .before .before .up in
     let e = c .before .before .before .before .before .before .before .before .before in

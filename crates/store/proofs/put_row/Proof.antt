@@ -8,28 +8,19 @@ use native.Mathlib.Omega.{arith}
 use borrow.Author.Needs.{needs}
 use Rattle.store.proofs.put_row.Statement.{statement}
 use Rattle.store.proofs.put_row.Tie as tie
-use Rattle.store.proofs.put_row.Reads as reads
-use Rattle.store.proofs.put_row.Lts as lts
-use Rattle.store.proofs.put_words.Reads as put-words-reads
-use Rattle.store.proofs.words_of.Reads as words-of-reads
 
--- src/lib.rt:294:18
 mul-put-words : tie.Need-mul-put-words
 mul-put-words c = search needs
 
--- src/lib.rt:294:26
 words-of-requires : tie.Need-words-of-requires
 words-of-requires c κs = search needs
 
--- src/lib.rt:294:5
 put-words-requires : tie.Need-put-words-requires
 put-words-requires c κs = search needs
 
--- src/lib.rt:290:1
 same-length : tie.Need-same-length
 same-length c = search needs
 
--- src/lib.rt:290:1
 returns : tie.Need-returns
 returns c = let w = c .before .before .before .words-of in
     let a = c .before .before .before .before .before .before .args in

@@ -5,9 +5,6 @@ use Rattle.store.proofs.Removed.{removed}
 use borrow.Author.Needs.{needs}
 use Rattle.store.proofs.remove_rows.Statement.{statement}
 use Rattle.store.proofs.remove_rows.Tie as tie
-use Rattle.store.proofs.remove_rows.Reads as reads
-use Rattle.store.proofs.remove_rows.Lts as lts
-use Rattle.words.proofs.shift.down.Reads as down-reads
 
 add-end : tie.Need-add-end
 add-end c = search needs

@@ -2,9 +2,6 @@ use native.Mathlib.Omega.{arith}
 use mathlib.Core.Path.{refl}
 use Rattle.rope.proofs.apply.apply.Statement.{statement}
 use Rattle.rope.proofs.apply.apply.Tie as tie
-use Rattle.rope.proofs.apply.apply.Reads as reads
-use Rattle.rope.proofs.apply.apply.Lts as lts
-use Rattle.rope.proofs.apply.apply_with.Reads as apply-with-reads
 
 slice-aggregate-apply-with : tie.Need-slice-aggregate-apply-with
 slice-aggregate-apply-with c = refl

@@ -1,23 +1,15 @@
-use borrow.Author.Needs.{needs}
-use Rattle.rope.specs.Applies.{Fit, Waiting, Grown, Kept}
+use Rattle.rope.specs.Applies.{Fit, Grown}
 use Rattle.rope.specs.Pieces.{piecesOf, afterOf}
 use Rattle.rope.specs.declared.change.Change.{Change}
-use Rattle.store.specs.Row.{rows, rowAt}
 use Rattle.span.specs.declared.span.FugueSpan.{FugueSpan}
 use lib.ListN.{length}
-use Prim.Native.Nat.{ℕ, _+_, _-_, _*_, _≤_, _<_}
+use Prim.Native.Nat.{_+_, _-_}
 use native.Mathlib.Omega.{arith}
-use mathlib.Core.Path.{_≡_, refl, sym, ap, ap₂, subst, _∙_}
+use mathlib.Core.Path.{_≡_, refl, sym, ap, subst, _∙_}
 use Rattle.rope.proofs.Queue.{short}
 use Rattle.rope.proofs.Counting.{Tally, tally-start, tally-joined, tally-fit, tally-turn, tally-done}
 use Rattle.rope.proofs.apply.count_with.Statement.{statement}
 use Rattle.rope.proofs.apply.count_with.Tie as tie
-use Rattle.rope.proofs.apply.count_with.Reads as reads
-use Rattle.rope.proofs.apply.count_with.Lts as lts
-use Rattle.rope.proofs.apply.keep_last.Reads as keep-last-reads
-use Rattle.rope.proofs.apply.push_row.Reads as push-row-reads
-use Rattle.rope.proofs.change.Change.after.Reads as after-reads
-use Rattle.store.proofs.get_row.Reads as get-row-reads
 
 abbrev Inv-loop : tie.InvT-loop
 Inv-loop s q₀ n left₀ i₀ gone₀ m₀ q left i gone m = Tally left₀ n s left i gone m q × (length q ≡ length q₀)

@@ -3,10 +3,6 @@ use Rattle.rope.proofs.Counting.{kept-last, kept-all}
 use borrow.Author.Needs.{needs}
 use Rattle.rope.proofs.apply.keep_last.Statement.{statement}
 use Rattle.rope.proofs.apply.keep_last.Tie as tie
-use Rattle.rope.proofs.apply.keep_last.Reads as reads
-use Rattle.rope.proofs.apply.keep_last.Lts as lts
-use Rattle.store.proofs.get_row.Reads as get-row-reads
-use Rattle.store.proofs.put_row.Reads as put-row-reads
 
 sub-get-row : tie.Need-sub-get-row
 sub-get-row c = search needs

@@ -1,20 +1,12 @@
-use Rattle.rope.specs.Applies.{Fit, Waiting, Grown, Moved}
-use Rattle.span.specs.Span.{lenSpan, spanCode, partSpan}
-use Rattle.span.specs.declared.span.FugueSpan.{FugueSpan}
-use mathlib.Core.List.{List, [], _∷_, _++_}
-use Prim.Native.Nat.{ℕ, _+_, _-_, _*_, _≤_, _<_}
-use borrow.Author.Needs.{needs}
+use mathlib.Core.List.{_++_}
+use Prim.Native.Nat.{_+_, _-_, _≤_}
 use native.Mathlib.Omega.{arith}
-use mathlib.Core.Path.{_≡_, refl, sym, ap, ap₂, subst, _∙_}
+use mathlib.Core.Path.{_≡_, refl, _∙_}
 use Rattle.store.specs.Row.{rows}
 use lib.ListN.{length, take}
 use Rattle.rope.proofs.Queue.{all-start, all-turn, all-done}
 use Rattle.rope.proofs.apply.move_all.Statement.{statement}
 use Rattle.rope.proofs.apply.move_all.Tie as tie
-use Rattle.rope.proofs.apply.move_all.Reads as reads
-use Rattle.rope.proofs.apply.move_all.Lts as lts
-use Rattle.store.proofs.get_row.Reads as get-row-reads
-use Rattle.store.proofs.put_row.Reads as put-row-reads
 
 abbrev Inv-loop : tie.InvT-loop
 Inv-loop s₀ w q m j₀ s j = (j ≤ m) × (length s ≡ length s₀) × (rows (w + j) s ≡ rows w s₀ ++ take j (rows m q))

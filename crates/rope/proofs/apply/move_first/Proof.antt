@@ -1,19 +1,9 @@
-use Rattle.rope.specs.Applies.{Fit, Waiting, Grown, Moved}
-use Rattle.span.specs.Span.{lenSpan, spanCode, partSpan}
-use Rattle.span.specs.declared.span.FugueSpan.{FugueSpan}
-use mathlib.Core.List.{List, [], _∷_, _++_}
-use Prim.Native.Nat.{ℕ, _+_, _-_, _*_, _≤_, _<_}
+use Prim.Native.Nat.{_-_}
 use native.Mathlib.Omega.{arith}
-use mathlib.Core.Path.{_≡_, refl, sym, ap, ap₂, subst, _∙_}
 use Rattle.rope.proofs.Queue.{moved-one, moved-none}
 use borrow.Author.Needs.{needs}
 use Rattle.rope.proofs.apply.move_first.Statement.{statement}
 use Rattle.rope.proofs.apply.move_first.Tie as tie
-use Rattle.rope.proofs.apply.move_first.Reads as reads
-use Rattle.rope.proofs.apply.move_first.Lts as lts
-use Rattle.store.proofs.get_row.Reads as get-row-reads
-use Rattle.store.proofs.put_row.Reads as put-row-reads
-use Rattle.store.proofs.remove_rows.Reads as remove-rows-reads
 
 get-row-requires : tie.Need-get-row-requires
 get-row-requires c κs = search needs

@@ -1,21 +1,15 @@
-use Rattle.rope.specs.Applies.{Fit, Waiting, Grown, Moved}
-use Rattle.span.specs.Span.{lenSpan, spanCode, partSpan}
+use Rattle.rope.specs.Applies.{Grown}
+use Rattle.span.specs.Span.{spanCode}
 use Rattle.span.specs.declared.span.FugueSpan.{FugueSpan}
-use mathlib.Core.List.{List, [], _∷_, _++_}
-use Prim.Native.Nat.{ℕ, _+_, _-_, _*_, _≤_, _<_}
-use native.Mathlib.Omega.{arith}
-use mathlib.Core.Path.{_≡_, refl, sym, ap, ap₂, subst, _∙_}
+use mathlib.Core.List.{List, [], _∷_}
+use Prim.Native.Nat.{_-_}
+use mathlib.Core.Path.{_≡_, sym, ap, subst, _∙_}
 use Rattle.rope.specs.Pieces.{changeSpan, CanChange}
 use Rattle.span.proofs.Unique.{in-range}
 use Rattle.rope.proofs.Queue.{changed-some, changed-none, grown-one, grown-none}
 use borrow.Author.Needs.{needs}
 use Rattle.rope.proofs.apply.push_changed.Statement.{statement}
 use Rattle.rope.proofs.apply.push_changed.Tie as tie
-use Rattle.rope.proofs.apply.push_changed.Reads as reads
-use Rattle.rope.proofs.apply.push_changed.Lts as lts
-use Rattle.rope.proofs.change.Change.changed.Reads as changed-reads
-use Rattle.rope.proofs.stream.push.Reads as push-reads
-use Rattle.span.proofs.span.FugueSpan.piece.Reads as piece-reads
 
 piece-requires : tie.Need-piece-requires
 piece-requires c κs = let e = c .before .before .before in let a = e .args in in-range (a .row) (a .from) (a .to) (e .pre .2) (c .before .if1 .taken) (e .pre .3)

@@ -1,24 +1,15 @@
-use Rattle.rope.specs.Applies.{Fit, Waiting, Grown, Moved}
 use Rattle.span.specs.Span.{lenSpan, spanCode, partSpan}
-use Rattle.span.specs.declared.span.FugueSpan.{FugueSpan}
-use mathlib.Core.List.{List, [], _∷_, _++_}
-use Prim.Native.Nat.{ℕ, _+_, _-_, _*_, _≤_, _<_}
+use Prim.Native.Nat.{_+_, _-_, _*_, _≤_, _<_}
 use native.Mathlib.Omega.{arith}
-use mathlib.Core.Path.{_≡_, refl, sym, ap, ap₂, subst, _∙_}
+use mathlib.Core.Path.{_≡_, refl, sym, subst}
 use Rattle.rope.proofs.Cuts.{cut-most}
-use Rattle.rope.specs.Pieces.{cutOf, changeSpan, CanChange}
+use Rattle.rope.specs.Pieces.{changeSpan, CanChange}
 use Rattle.rope.specs.declared.change.Part.{Part}
 use lib.ListN.{length}
 use Rattle.rope.proofs.Queue.{part-short, changed-short, part-fine, grown-waits, changed-ok, row-waits, row-grown}
 use borrow.Author.Needs.{needs}
 use Rattle.rope.proofs.apply.push_row.Statement.{statement}
 use Rattle.rope.proofs.apply.push_row.Tie as tie
-use Rattle.rope.proofs.apply.push_row.Reads as reads
-use Rattle.rope.proofs.apply.push_row.Lts as lts
-use Rattle.rope.proofs.apply.push_changed.Reads as push-changed-reads
-use Rattle.rope.proofs.apply.push_part.Reads as push-part-reads
-use Rattle.rope.proofs.change.Change.cut.Reads as cut-reads
-use Rattle.span.proofs.span.FugueSpan.rle_len.Reads as rle-len-reads
 
 cut-requires : tie.Need-cut-requires
 cut-requires c κs = c .before .pre .2 .can

@@ -1,8 +1,6 @@
 use borrow.Author.Needs.{needs}
 use Rattle.rope.proofs.change.or_real.Statement.{statement}
 use Rattle.rope.proofs.change.or_real.Tie as tie
-use Rattle.rope.proofs.change.or_real.Reads as reads
-use Rattle.rope.proofs.change.or_real.Lts as lts
 
 enum-told : tie.Need-enum-told
 enum-told c = search needs

@@ -1,14 +1,10 @@
 use native.Mathlib.Omega.{arith}
-use mathlib.Core.Path.{_≡_, sym, _∙_}
+use mathlib.Core.Path.{sym, _∙_}
 use borrow.Author.Tests.{not-true, not-false}
 use Rattle.rope.proofs.Deletion.{delete-none, delete-empty, delete-some}
 use borrow.Author.Needs.{needs}
 use Rattle.rope.proofs.delete.delete.Statement.{statement}
 use Rattle.rope.proofs.delete.delete.Tie as tie
-use Rattle.rope.proofs.delete.delete.Reads as reads
-use Rattle.rope.proofs.delete.delete.Lts as lts
-use Rattle.rope.proofs.delete.delete_some.Reads as delete-some-reads
-use Rattle.rope.proofs.state.check.Reads as check-reads
 
 check-requires : tie.Need-check-requires
 check-requires c κs = search needs

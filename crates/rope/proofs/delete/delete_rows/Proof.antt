@@ -5,9 +5,6 @@ use Rattle.rope.proofs.Deletes.{deletes, delete-law}
 use borrow.Author.Needs.{needs}
 use Rattle.rope.proofs.delete.delete_rows.Statement.{statement}
 use Rattle.rope.proofs.delete.delete_rows.Tie as tie
-use Rattle.rope.proofs.delete.delete_rows.Reads as reads
-use Rattle.rope.proofs.delete.delete_rows.Lts as lts
-use Rattle.rope.proofs.apply.apply.Reads as apply-reads
 
 apply-requires : tie.Need-apply-requires
 apply-requires c κs = let e = c .before .before in let a = e .args in deletes (a .n) (a .at) (a .len) (a .start) (a .s .now) (e .pre)

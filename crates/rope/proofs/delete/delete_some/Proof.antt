@@ -6,13 +6,6 @@ use Rattle.rope.proofs.Deletion.{some-asks, some-refused, some-report, 
 use borrow.Author.Needs.{needs}
 use Rattle.rope.proofs.delete.delete_some.Statement.{statement}
 use Rattle.rope.proofs.delete.delete_some.Tie as tie
-use Rattle.rope.proofs.delete.delete_some.Reads as reads
-use Rattle.rope.proofs.delete.delete_some.Lts as lts
-use Rattle.rope.proofs.delete.refuse_delete.Reads as refuse-delete-reads
-use Rattle.rope.proofs.delete.write_delete.Reads as write-delete-reads
-use Rattle.rope.proofs.report.report.Reads as report-reads
-use Rattle.store.proofs.header.count.Reads as count-reads
-use Rattle.store.proofs.header.room.Reads as room-reads
 
 count-requires : tie.Need-count-requires
 count-requires c κs = state-head (c .before .before .before .args .s .now) (c .before .before .before .pre .0)

@@ -12,12 +12,6 @@ use Rattle.rope.proofs.Deletion.{rest-ids, rest-past, rest-full, rest-s
 use borrow.Author.Needs.{needs}
 use Rattle.rope.proofs.delete.refuse_delete.Statement.{statement}
 use Rattle.rope.proofs.delete.refuse_delete.Tie as tie
-use Rattle.rope.proofs.delete.refuse_delete.Reads as reads
-use Rattle.rope.proofs.delete.refuse_delete.Lts as lts
-use Rattle.rope.proofs.apply.count.Reads as count-reads
-use Rattle.rope.proofs.report.removed_len.Reads as removed-len-reads
-use Rattle.rope.proofs.seek.visible.Reads as visible-reads
-use Rattle.span.proofs.ids.OptId.has_room.Reads as has-room-reads
 
 has-room-requires : tie.Need-has-room-requires
 has-room-requires c κs = search needs

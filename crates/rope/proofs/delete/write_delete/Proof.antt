@@ -3,10 +3,6 @@ use Rattle.rope.proofs.Deletion.{removes-asks, removes-done}
 use borrow.Author.Needs.{needs}
 use Rattle.rope.proofs.delete.write_delete.Statement.{statement}
 use Rattle.rope.proofs.delete.write_delete.Tie as tie
-use Rattle.rope.proofs.delete.write_delete.Reads as reads
-use Rattle.rope.proofs.delete.write_delete.Lts as lts
-use Rattle.rope.proofs.delete.delete_rows.Reads as delete-rows-reads
-use Rattle.store.proofs.header.set_count.Reads as set-count-reads
 
 sub-delete-rows : tie.Need-sub-delete-rows
 sub-delete-rows c = search needs

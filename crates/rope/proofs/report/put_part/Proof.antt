@@ -1,21 +1,10 @@
-use Rattle.rope.specs.Reports.{PutPart, PutUnits}
-use Rattle.rope.specs.Pieces.{deleteCut, deleteAfter}
-use Rattle.rope.specs.declared.change.Part.{Part}
-use Rattle.span.specs.Span.{lenSpan, spanCode}
-use Rattle.span.specs.declared.span.FugueSpan.{FugueSpan}
-use lib.ListN.{length}
-use Prim.Native.Nat.{ℕ, _+_, _-_, _*_, _≤_, _<_, min}
+use Prim.Native.Nat.{_-_}
 use native.Mathlib.Omega.{arith}
-use mathlib.Core.Path.{_≡_, refl, sym, ap, ap₂, subst, _∙_}
 use Rattle.span.proofs.Unique.{in-range}
 use Rattle.rope.proofs.Reporting.{put-some, put-none}
 use borrow.Author.Needs.{needs}
 use Rattle.rope.proofs.report.put_part.Statement.{statement}
 use Rattle.rope.proofs.report.put_part.Tie as tie
-use Rattle.rope.proofs.report.put_part.Reads as reads
-use Rattle.rope.proofs.report.put_part.Lts as lts
-use Rattle.span.proofs.span.FugueSpan.piece.Reads as piece-reads
-use Rattle.store.proofs.put_row.Reads as put-row-reads
 
 piece-requires : tie.Need-piece-requires
 piece-requires c κs = let e = c .before .before .before in let a = e .args in in-range (a .row) (a .from) (a .to) (e .pre .0) (c .before .if1 .taken) (e .pre .1)

@@ -1,21 +1,9 @@
-use Rattle.rope.specs.Reports.{PutPart, PutUnits}
-use Rattle.rope.specs.Pieces.{deleteCut, deleteAfter}
-use Rattle.rope.specs.declared.change.Part.{Part}
-use Rattle.span.specs.Span.{lenSpan, spanCode}
-use Rattle.span.specs.declared.span.FugueSpan.{FugueSpan}
-use lib.ListN.{length}
-use Prim.Native.Nat.{ℕ, _+_, _-_, _*_, _≤_, _<_, min}
-use borrow.Author.Needs.{needs}
+use Prim.Native.Nat.{_+_, _-_}
 use native.Mathlib.Omega.{arith}
-use mathlib.Core.Path.{_≡_, refl, sym, ap, ap₂, subst, _∙_}
 use Rattle.span.proofs.Unique.{in-range}
 use Rattle.rope.proofs.Reporting.{Down, down-start, down-turn, down-done}
 use Rattle.rope.proofs.report.put_units.Statement.{statement}
 use Rattle.rope.proofs.report.put_units.Tie as tie
-use Rattle.rope.proofs.report.put_units.Reads as reads
-use Rattle.rope.proofs.report.put_units.Lts as lts
-use Rattle.span.proofs.span.FugueSpan.piece.Reads as piece-reads
-use Rattle.store.proofs.put_row.Reads as put-row-reads
 
 abbrev Inv-loop : tie.InvT-loop
 Inv-loop out₀ top row from to u₀ t₀ out u t = Down top row from to out₀ u t out

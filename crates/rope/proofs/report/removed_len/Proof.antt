@@ -1,14 +1,11 @@
 use Rattle.store.specs.Row.{rows}
 use lib.ListN.{length}
 use native.Mathlib.Omega.{arith}
-use mathlib.Core.Path.{_≡_, sym, ap, _∙_}
+use mathlib.Core.Path.{sym, ap, _∙_}
 use Rattle.rope.proofs.Reporting.{back-length, pieces-single, pieces-forward}
 use borrow.Author.Needs.{needs}
 use Rattle.rope.proofs.report.removed_len.Statement.{statement}
 use Rattle.rope.proofs.report.removed_len.Tie as tie
-use Rattle.rope.proofs.report.removed_len.Reads as reads
-use Rattle.rope.proofs.report.removed_len.Lts as lts
-use Rattle.rope.proofs.report.touched_len.Reads as touched-len-reads
 
 cast-result : tie.Need-cast-result
 cast-result c = search needs

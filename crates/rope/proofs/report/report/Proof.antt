@@ -4,15 +4,11 @@ use Rattle.span.specs.declared.span.FugueSpan.{FugueSpan}
 use lib.ListN.{length}
 use native.Mathlib.Omega.{arith}
 use mathlib.Core.List.{List}
-use mathlib.Core.Path.{_≡_, sym, ap, subst, _∙_}
+use mathlib.Core.Path.{sym, ap, subst}
 use Rattle.rope.proofs.Reporting.{back-length, pieces-back, pieces-single, pieces-forward}
 use borrow.Author.Needs.{needs}
 use Rattle.rope.proofs.report.report.Statement.{statement}
 use Rattle.rope.proofs.report.report.Tie as tie
-use Rattle.rope.proofs.report.report.Reads as reads
-use Rattle.rope.proofs.report.report.Lts as lts
-use Rattle.rope.proofs.report.report_rows.Reads as report-rows-reads
-use Rattle.rope.proofs.report.report_units.Reads as report-units-reads
 
 report-units-requires : tie.Need-report-units-requires
 report-units-requires c κs = let e = c .before .before .before .before .before .before in let a = e .args in let z = back-length (a .d) (a .n) (a .s .now) (a .reversed) (e .pre .0) (c .before .before .before .if1 .taken) (c .before .if2 .taken) in (e .pre .0, omega (arith, z, e .pre .1))

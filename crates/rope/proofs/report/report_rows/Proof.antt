@@ -1,24 +1,16 @@
-use Rattle.rope.specs.Reports.{PutPart, PutUnits}
+use Rattle.rope.specs.Reports.{PutPart}
 use Rattle.rope.specs.Pieces.{deleteCut, deleteAfter}
 use Rattle.rope.specs.declared.change.Part.{Part}
 use Rattle.span.specs.Span.{lenSpan, spanCode}
 use Rattle.span.specs.declared.span.FugueSpan.{FugueSpan}
-use lib.ListN.{length}
-use Prim.Native.Nat.{ℕ, _+_, _-_, _*_, _≤_, _<_, min}
-use borrow.Author.Needs.{needs}
+use Prim.Native.Nat.{_-_, _≤_}
 use native.Mathlib.Omega.{arith}
-use mathlib.Core.Path.{_≡_, refl, sym, ap, ap₂, subst, _∙_}
+use mathlib.Core.Path.{_≡_, sym, ap, subst, _∙_}
 use Rattle.rope.proofs.Cuts.{delete-most}
 use Rattle.rope.proofs.Rights.{row-ok}
 use Rattle.rope.proofs.Reporting.{Listing, listing-start, listing-room, listing-turn, listing-done}
 use Rattle.rope.proofs.report.report_rows.Statement.{statement}
 use Rattle.rope.proofs.report.report_rows.Tie as tie
-use Rattle.rope.proofs.report.report_rows.Reads as reads
-use Rattle.rope.proofs.report.report_rows.Lts as lts
-use Rattle.rope.proofs.change.Delete.after.Reads as after-reads
-use Rattle.rope.proofs.change.Delete.cut.Reads as cut-reads
-use Rattle.rope.proofs.report.put_part.Reads as put-part-reads
-use Rattle.store.proofs.get_row.Reads as get-row-reads
 
 abbrev Inv-loop : tie.InvT-loop
 Inv-loop s n out₀ left₀ i₀ k₀ out left i k = Listing left₀ n s out₀ left i k out

@@ -1,23 +1,15 @@
 use Rattle.rope.proofs.Rights.{row-ok}
-use Rattle.rope.specs.Reports.{PutPart, PutUnits}
+use Rattle.rope.specs.Reports.{PutUnits}
 use Rattle.rope.specs.Pieces.{deleteCut, deleteAfter}
-use Rattle.rope.specs.declared.change.Part.{Part}
 use Rattle.span.specs.Span.{lenSpan, spanCode}
 use Rattle.span.specs.declared.span.FugueSpan.{FugueSpan}
-use lib.ListN.{length}
-use Prim.Native.Nat.{ℕ, _+_, _-_, _*_, _≤_, _<_, min}
+use Prim.Native.Nat.{_-_, _≤_}
 use borrow.Author.Needs.{needs}
 use native.Mathlib.Omega.{arith}
-use mathlib.Core.Path.{_≡_, refl, sym, ap, ap₂, subst, _∙_}
+use mathlib.Core.Path.{_≡_, sym, ap, subst, _∙_}
 use Rattle.rope.proofs.Reporting.{Back, back-start, back-asks, back-turn, back-done}
 use Rattle.rope.proofs.report.report_units.Statement.{statement}
 use Rattle.rope.proofs.report.report_units.Tie as tie
-use Rattle.rope.proofs.report.report_units.Reads as reads
-use Rattle.rope.proofs.report.report_units.Lts as lts
-use Rattle.rope.proofs.change.Delete.after.Reads as after-reads
-use Rattle.rope.proofs.change.Delete.cut.Reads as cut-reads
-use Rattle.rope.proofs.report.put_units.Reads as put-units-reads
-use Rattle.store.proofs.get_row.Reads as get-row-reads
 
 abbrev Inv-loop : tie.InvT-loop
 Inv-loop s n out₀ d left₀ i₀ out left i = Back d n s out₀ left i out

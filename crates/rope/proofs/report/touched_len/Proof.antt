@@ -1,22 +1,10 @@
-use Rattle.rope.specs.Reports.{PutPart, PutUnits}
 use Rattle.rope.specs.Pieces.{deleteCut, deleteAfter}
-use Rattle.rope.specs.declared.change.Part.{Part}
-use Rattle.span.specs.Span.{lenSpan, spanCode}
-use Rattle.span.specs.declared.span.FugueSpan.{FugueSpan}
-use lib.ListN.{length}
-use Prim.Native.Nat.{ℕ, _+_, _-_, _*_, _≤_, _<_, min}
-use borrow.Author.Needs.{needs}
+use Prim.Native.Nat.{_-_}
 use native.Mathlib.Omega.{arith}
-use mathlib.Core.Path.{_≡_, refl, sym, ap, ap₂, subst, _∙_}
+use mathlib.Core.Path.{ap, _∙_}
 use Rattle.rope.proofs.Reporting.{Touch, touch-start, touch-turn, touch-done}
 use Rattle.rope.proofs.report.touched_len.Statement.{statement}
 use Rattle.rope.proofs.report.touched_len.Tie as tie
-use Rattle.rope.proofs.report.touched_len.Reads as reads
-use Rattle.rope.proofs.report.touched_len.Lts as lts
-use Rattle.rope.proofs.change.Delete.after.Reads as after-reads
-use Rattle.rope.proofs.change.Delete.cut.Reads as cut-reads
-use Rattle.rope.proofs.report.some.Reads as some-reads
-use Rattle.store.proofs.get_row.Reads as get-row-reads
 
 abbrev Inv-loop : tie.InvT-loop
 Inv-loop s n left₀ i₀ k₀ left i k = Touch left₀ n s left i k

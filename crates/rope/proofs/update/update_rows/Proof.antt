@@ -5,9 +5,6 @@ use Rattle.rope.proofs.Updating.{updates, update-law}
 use borrow.Author.Needs.{needs}
 use Rattle.rope.proofs.update.update_rows.Statement.{statement}
 use Rattle.rope.proofs.update.update_rows.Tie as tie
-use Rattle.rope.proofs.update.update_rows.Reads as reads
-use Rattle.rope.proofs.update.update_rows.Lts as lts
-use Rattle.rope.proofs.apply.apply.Reads as apply-reads
 
 apply-requires : tie.Need-apply-requires
 apply-requires c κs = let e = c .before .before in let a = e .args in updates (a .n) (a .u) (a .s .now) (e .pre)

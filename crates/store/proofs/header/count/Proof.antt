@@ -2,9 +2,6 @@ use Rattle.store.specs.Header.{count}
 use borrow.Author.Needs.{needs}
 use Rattle.store.proofs.header.count.Statement.{statement}
 use Rattle.store.proofs.header.count.Tie as tie
-use Rattle.store.proofs.header.count.Reads as reads
-use Rattle.store.proofs.header.count.Lts as lts
-use Rattle.words.proofs.get_u64.Reads as get-u64-reads
 
 get-u64-requires : tie.Need-get-u64-requires
 get-u64-requires c κs = search needs

@@ -6,10 +6,6 @@ use Rattle.store.specs.Header.{headerBytes}
 use borrow.Author.Needs.{needs}
 use Rattle.store.proofs.header.put_header.Statement.{statement}
 use Rattle.store.proofs.header.put_header.Tie as tie
-use Rattle.store.proofs.header.put_header.Reads as reads
-use Rattle.store.proofs.header.put_header.Lts as lts
-use Rattle.store.proofs.header.header_words.Reads as header-words-reads
-use Rattle.store.proofs.put_words.Reads as put-words-reads
 
 header-words-requires : tie.Need-header-words-requires
 header-words-requires c κs = search needs

@@ -2,8 +2,6 @@ use native.Mathlib.Omega.{arith}
 use Rattle.store.specs.Header.{room}
 use Rattle.store.proofs.header.room.Statement.{statement}
 use Rattle.store.proofs.header.room.Tie as tie
-use Rattle.store.proofs.header.room.Reads as reads
-use Rattle.store.proofs.header.room.Lts as lts
 
 returns : tie.Need-returns
 unfolding room

@@ -4,9 +4,6 @@ use Rattle.rope.specs.Pieces.{afterOf, CanCut}
 use borrow.Author.Needs.{needs}
 use Rattle.rope.proofs.change.Change.after.Statement.{statement}
 use Rattle.rope.proofs.change.Change.after.Tie as tie
-use Rattle.rope.proofs.change.Change.after.Reads as reads
-use Rattle.rope.proofs.change.Change.after.Lts as lts
-use Rattle.rope.proofs.change.Delete.after.Reads as after-reads
 
 enum-known-self : tie.Need-enum-known-self
 enum-known-self c = search needs

@@ -2,10 +2,6 @@ use Rattle.rope.specs.Pieces.{changeSpan, CanChange}
 use borrow.Author.Needs.{needs}
 use Rattle.rope.proofs.change.Change.changed.Statement.{statement}
 use Rattle.rope.proofs.change.Change.changed.Tie as tie
-use Rattle.rope.proofs.change.Change.changed.Reads as reads
-use Rattle.rope.proofs.change.Change.changed.Lts as lts
-use Rattle.rope.proofs.change.Delete.changed.Reads as change-Delete-changed-reads
-use Rattle.rope.proofs.change.Update.changed.Reads as change-Update-changed-reads
 
 enum-known-self : tie.Need-enum-known-self
 enum-known-self c = search needs

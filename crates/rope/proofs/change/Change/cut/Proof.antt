@@ -2,10 +2,6 @@ use Rattle.rope.specs.Pieces.{cutOf, CanCut}
 use borrow.Author.Needs.{needs}
 use Rattle.rope.proofs.change.Change.cut.Statement.{statement}
 use Rattle.rope.proofs.change.Change.cut.Tie as tie
-use Rattle.rope.proofs.change.Change.cut.Reads as reads
-use Rattle.rope.proofs.change.Change.cut.Lts as lts
-use Rattle.rope.proofs.change.Delete.cut.Reads as change-Delete-cut-reads
-use Rattle.rope.proofs.change.Update.cut.Reads as change-Update-cut-reads
 
 enum-known-self : tie.Need-enum-known-self
 enum-known-self c = search needs

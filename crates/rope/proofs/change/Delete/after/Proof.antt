@@ -1,15 +1,10 @@
 use mathlib.Core.Path.{_≡_, sym, subst}
 use Prim.Native.Nat.{ℕ, _≤_}
 use Rattle.rope.proofs.Cuts.{own-room, took-most}
-use Rattle.rope.specs.Pieces.{deleteCut, tookOf, deleteAfter}
+use Rattle.rope.specs.Pieces.{tookOf, deleteAfter}
 use borrow.Author.Needs.{needs}
 use Rattle.rope.proofs.change.Delete.after.Statement.{statement}
 use Rattle.rope.proofs.change.Delete.after.Tie as tie
-use Rattle.rope.proofs.change.Delete.after.Reads as reads
-use Rattle.rope.proofs.change.Delete.after.Lts as lts
-use Rattle.rope.proofs.change.Delete.cut.Reads as cut-reads
-use Rattle.rope.proofs.change.past.Reads as past-reads
-use Rattle.span.proofs.ids.Id.inc.Reads as inc-reads
 
 cut-requires : tie.Need-cut-requires
 cut-requires c κs = search needs

@@ -1,15 +1,11 @@
 use Rattle.span.specs.declared.ids.OptId.{OptId}
 use Rattle.span.specs.declared.status.Status.{Status}
-use mathlib.Core.Path.{_≡_, refl, sym, ap, ap₂, _∙_}
+use mathlib.Core.Path.{sym, ap₂, _∙_}
 use Rattle.rope.proofs.Cuts.{gone}
-use Rattle.rope.specs.Change.{withState, orReal, deleteUnit}
+use Rattle.rope.specs.Change.{withState, deleteUnit}
 use borrow.Author.Needs.{needs}
 use Rattle.rope.proofs.change.Delete.changed.Statement.{statement}
 use Rattle.rope.proofs.change.Delete.changed.Tie as tie
-use Rattle.rope.proofs.change.Delete.changed.Reads as reads
-use Rattle.rope.proofs.change.Delete.changed.Lts as lts
-use Rattle.rope.proofs.change.or_real.Reads as or-real-reads
-use Rattle.rope.proofs.change.with_state.Reads as with-state-reads
 
 or-real-requires : tie.Need-or-real-requires
 or-real-requires c κs = search needs

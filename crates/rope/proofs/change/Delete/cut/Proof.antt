@@ -2,10 +2,6 @@ use Rattle.rope.specs.Pieces.{deleteCut}
 use borrow.Author.Needs.{needs}
 use Rattle.rope.proofs.change.Delete.cut.Statement.{statement}
 use Rattle.rope.proofs.change.Delete.cut.Tie as tie
-use Rattle.rope.proofs.change.Delete.cut.Reads as reads
-use Rattle.rope.proofs.change.Delete.cut.Lts as lts
-use Rattle.rope.proofs.change.least.Reads as least-reads
-use Rattle.span.proofs.span.FugueSpan.activated_len.Reads as activated-len-reads
 
 activated-len-requires : tie.Need-activated-len-requires
 activated-len-requires c κs = search needs

@@ -2,9 +2,6 @@ use Rattle.rope.specs.Change.{baseOf}
 use borrow.Author.Needs.{needs}
 use Rattle.rope.proofs.change.Update.base.Statement.{statement}
 use Rattle.rope.proofs.change.Update.base.Tie as tie
-use Rattle.rope.proofs.change.Update.base.Reads as reads
-use Rattle.rope.proofs.change.Update.base.Lts as lts
-use Rattle.rope.proofs.change.diff_or.Reads as diff-or-reads
 
 diff-or-requires : tie.Need-diff-or-requires
 diff-or-requires c κs = search needs

@@ -1,14 +1,9 @@
 use Rattle.rope.proofs.Cuts.{updated-diff, updated}
-use mathlib.Core.Path.{_≡_, refl, sym, ap, ap₂, _∙_}
-use Rattle.rope.specs.Change.{withState, changeStatus, baseOf, updateUnit}
+use mathlib.Core.Path.{ap, _∙_}
+use Rattle.rope.specs.Change.{changeStatus}
 use borrow.Author.Needs.{needs}
 use Rattle.rope.proofs.change.Update.changed.Statement.{statement}
 use Rattle.rope.proofs.change.Update.changed.Tie as tie
-use Rattle.rope.proofs.change.Update.changed.Reads as reads
-use Rattle.rope.proofs.change.Update.changed.Lts as lts
-use Rattle.rope.proofs.change.Update.base.Reads as base-reads
-use Rattle.rope.proofs.change.Update.status.Reads as status-reads
-use Rattle.rope.proofs.change.with_state.Reads as with-state-reads
 
 base-requires : tie.Need-base-requires
 base-requires c κs = search needs

@@ -1,20 +1,14 @@
 use mir.Facts.{toZ-ofZ}
 use mir.Val.{SFits}
-use mir.Syntax.{w16, w32}
+use mir.Syntax.{w32}
 use mathlib.Core.Bool.{true, false}
 use Rattle.span.specs.Span.{lenSpan}
-use mathlib.Core.Path.{_≡_, refl, sym, ap, ap₂, _∙_}
+use mathlib.Core.Path.{sym, _∙_}
 use Rattle.rope.proofs.Cuts.{from-negative, from-at, cut-by}
 use borrow.Author.Tests.{eq-eqb, ne-eqb}
-use Rattle.rope.specs.Pieces.{part, partAt, partFrom, updateCut}
 use borrow.Author.Needs.{needs}
 use Rattle.rope.proofs.change.Update.cut.Statement.{statement}
 use Rattle.rope.proofs.change.Update.cut.Tie as tie
-use Rattle.rope.proofs.change.Update.cut.Reads as reads
-use Rattle.rope.proofs.change.Update.cut.Lts as lts
-use Rattle.rope.proofs.change.Update.part_at.Reads as part-at-reads
-use Rattle.span.proofs.span.FugueSpan.rle_len.Reads as rle-len-reads
-use Rattle.span.proofs.status.counter_of.Reads as counter-of-reads
 
 counter-of-requires : tie.Need-counter-of-requires
 counter-of-requires c κs = search needs

@@ -2,10 +2,6 @@ use Rattle.rope.specs.Pieces.{partAt}
 use borrow.Author.Needs.{needs}
 use Rattle.rope.proofs.change.Update.part_at.Statement.{statement}
 use Rattle.rope.proofs.change.Update.part_at.Tie as tie
-use Rattle.rope.proofs.change.Update.part_at.Reads as reads
-use Rattle.rope.proofs.change.Update.part_at.Lts as lts
-use Rattle.rope.proofs.change.least.Reads as least-reads
-use Rattle.rope.proofs.change.past.Reads as past-reads
 
 past-requires : tie.Need-past-requires
 past-requires c κs = search needs

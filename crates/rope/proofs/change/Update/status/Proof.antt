@@ -1,15 +1,11 @@
 use mir.Facts.{toZ-ofZ}
 use mir.Val.{SFits}
-use mir.Syntax.{w16, w32}
-use mathlib.Core.Path.{_≡_, refl, sym, ap, ap₂, _∙_}
+use mir.Syntax.{w16}
+use mathlib.Core.Path.{sym, _∙_}
 use Rattle.rope.proofs.Cuts.{status-done, status-refused}
 use borrow.Author.Needs.{needs}
 use Rattle.rope.proofs.change.Update.status.Statement.{statement}
 use Rattle.rope.proofs.change.Update.status.Tie as tie
-use Rattle.rope.proofs.change.Update.status.Reads as reads
-use Rattle.rope.proofs.change.Update.status.Lts as lts
-use Rattle.rope.proofs.change.SetFuture.apply.Reads as apply-reads
-use Rattle.span.proofs.status.Status.changed.Reads as changed-reads
 
 changed-requires : tie.Need-changed-requires
 changed-requires c κs = search needs

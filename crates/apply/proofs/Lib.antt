@@ -1,0 +1,5 @@
+pub mod DeltaApplies
+pub mod JoinApplies
+pub mod Tabs
+pub mod Lows
+pub mod Fits

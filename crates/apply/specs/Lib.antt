@@ -1,0 +1,3 @@
+pub mod Apply
+pub mod Items
+pub mod Given
