@@ -1,22 +1,19 @@
 -- what refuses an insert, test by test, and what an insert that is not refused may rely on
-use Prim.Native.Nat.{ℕ, zero, suc, _+_, _-_, _*_, _<_, _≤_}
+use Prim.Native.Nat.{ℕ, zero, suc, _+_, _-_, _<_, _≤_}
 use mathlib.Core.Path.{_≡_, refl, sym, ap, ap₂, subst, _∙_}
-use mathlib.Core.Bool.{Bool, true, false, not, _&&_, _||_, cond, true≢false, false≢true}
-use mathlib.Core.List.{List, [], _∷_}
+use mathlib.Core.Bool.{Bool, true, false, not, _&&_, cond}
+use mathlib.Core.List.{List}
 use native.Mathlib.Omega.{arith}
-use native.Mathlib.Nat.{zero-add}
 use lib.Dec.{leb, eqb}
-use lib.ListN.{length, drop}
-use borrow.Author.Tests.{leb-true, le-leb, lt-leb, eq-eqb, ne-eqb}
+use lib.ListN.{length}
+use borrow.Author.Tests.{leb-true, le-leb, lt-leb, eq-eqb, ne-eqb, eqb-true, eqb-false}
 use Rattle.span.specs.declared.ids.Id.{Id}
-use Rattle.span.specs.declared.ids.OptId.{OptId}
 use Rattle.span.specs.declared.ids.OptId.the-variants.{At}
-use Rattle.span.specs.declared.chunk.RichtextChunk.{RichtextChunk}
 use Rattle.span.specs.declared.span.FugueSpan.{FugueSpan}
 use Rattle.span.specs.Chunk.{formed}
 use Rattle.span.specs.Ids.{UNKNOWN-PEER, incId}
 use Rattle.span.proofs.IdsLaws.{inc-zero, inc-inc}
-use Rattle.span.specs.Span.{lenSpan, spanCode, idsOk, newSpan}
+use Rattle.span.specs.Span.{lenSpan, spanCode, idsOk}
 use Rattle.span.specs.Units.{expand, join}
 use Rattle.store.specs.Row.{rows}
 use Rattle.store.proofs.Laws.{length-rows}
@@ -24,11 +21,11 @@ use Rattle.rope.specs.Limits.{UNITS, fits}
 use Rattle.rope.specs.Place.{memId, shown, insertUnits}
 use Rattle.rope.specs.Store.{wellFormed}
 use Rattle.rope.specs.Codes.{unless, holdsSome, insertIds, insertCode}
-use Rattle.rope.specs.Spans.{AllOk, Stored, Fresh, Good, Ready, holdsAny}
+use Rattle.rope.specs.Spans.{AllOk, Fresh, Good, Ready, holdsAny}
 use Rattle.rope.specs.Edits.{insertFirst, Asked}
 use Rattle.rope.proofs.Lists.{or-left, or-right, or-false, or-both}
-use Rattle.rope.proofs.Apart.{Shared, shared-of, fresh-of}
-use Rattle.rope.proofs.WellFormed.{Formed, formed-of, good-of}
+use Rattle.rope.proofs.Apart.{shared-of, fresh-of}
+use Rattle.rope.proofs.WellFormed.{formed-of, good-of}
 
 -- ---- some id is in the list
 
@@ -111,6 +108,10 @@ module _ (l : List FugueSpan) (at : ℕ) (x : FugueSpan) where
 
 -- by what refuses the span
 module _ (room : ℕ) (l : List FugueSpan) (at : ℕ) (x : FugueSpan) where
+  code-15 : wellFormed l ≡ false → insertCode room l at x ≡ 15
+  unfolding insertCode
+  code-15 e = rw e
+
   rest-of : ℕ
   rest-of =
       unless (not (holdsSome (lenSpan x) (x .id) (expand l))) 3
@@ -168,6 +169,35 @@ module _ (room : ℕ) (l : List FugueSpan) (at : ℕ) (x : FugueSpan) where
   code-done w z n h =
       code-rest w z ∙
       ap₂ (λ (t u : Bool). cond t (unless u 10 0) (insertFirst l at x)) (eq-eqb (insertFirst l at x) 0 n) (le-leb (length (join (insertUnits at x (expand l)))) room h)
+
+-- ---- what a number of 0 says
+
+module _ (room : ℕ) (l : List FugueSpan) (at : ℕ) (x : FugueSpan) (e : insertCode room l at x ≡ 0) where
+  pub formed-code : wellFormed l ≡ true
+  formed-code = go (wellFormed l) refl
+    where
+      go : (t : Bool) → wellFormed l ≡ t → wellFormed l ≡ true
+      go true p = p
+      go false p = absurd (let z : _≡_ {A = ℕ} 15 0 = sym (code-15 room l at x p) ∙ e in omega (arith, z))
+
+  pub fine-code : wellFormed l ≡ true → spanCode x ≡ 0
+  fine-code w = go (eqb (spanCode x) 0) refl
+    where
+      go : (t : Bool) → eqb (spanCode x) 0 ≡ t → spanCode x ≡ 0
+      go true p = eqb-true (spanCode x) 0 p
+      go false p = sym (code-span room l at x w (eqb-false (spanCode x) 0 p)) ∙ e
+
+  pub rest-code : wellFormed l ≡ true → spanCode x ≡ 0 → (insertFirst l at x ≡ 0) × (length (join (insertUnits at x (expand l))) ≤ room)
+  unfolding fits
+  rest-code w z = go (eqb (insertFirst l at x) 0) refl (leb (length (join (insertUnits at x (expand l)))) room) refl
+    where
+      whole : (t u : Bool) → eqb (insertFirst l at x) 0 ≡ t → leb (length (join (insertUnits at x (expand l)))) room ≡ u → cond t (unless u 10 0) (insertFirst l at x) ≡ 0
+      whole t u p q = sym (code-rest room l at x w z ∙ ap₂ (λ (a b : Bool). cond a (unless b 10 0) (insertFirst l at x)) p q) ∙ e
+
+      go : (t : Bool) → eqb (insertFirst l at x) 0 ≡ t → (u : Bool) → leb (length (join (insertUnits at x (expand l)))) room ≡ u → (insertFirst l at x ≡ 0) × (length (join (insertUnits at x (expand l))) ≤ room)
+      go true p true q = (eqb-true (insertFirst l at x) 0 p, leb-true (length (join (insertUnits at x (expand l)))) room q)
+      go true p false q = absurd (let k : _≡_ {A = ℕ} 10 0 = whole true false p q in omega (arith, k))
+      go false p u q = absurd (eqb-false (insertFirst l at x) 0 p (whole false u p q))
 
 -- ---- what the plan asks
 

@@ -1,20 +1,20 @@
 -- two spans that do not meet have no unit's id in common
-use Prim.Native.Nat.{ℕ, zero, suc, _+_, _-_, _*_, _<_, _≤_}
+use Prim.Native.Nat.{ℕ, _+_, _-_, _*_, _<_, _≤_}
 use mathlib.Core.Path.{_≡_, refl, sym, ap, ap₂, _∙_}
-use mathlib.Core.Bool.{Bool, true, false, _||_, cond, true≢false, false≢true}
+use mathlib.Core.Bool.{Bool, true, false, cond, true≢false, false≢true}
 use mathlib.Core.List.{List, [], _∷_, _++_}
 use mathlib.Core.Logic.{_⊎_, inl, inr}
 use native.Mathlib.Omega.{arith}
-use lib.ListN.{length, drop}
+use lib.ListN.{drop}
 use lib.IntN.{ℤ, pos, _+ℤ_}
 use Rattle.span.specs.declared.ids.Id.{Id}
 use Rattle.span.specs.declared.ids.OptId.{OptId}
 use Rattle.span.specs.declared.ids.OptId.the-variants.{Nothing, At}
 use Rattle.span.specs.declared.span.FugueSpan.{FugueSpan}
 use Rattle.span.specs.Ids.{incId, roomOf}
-use Rattle.span.proofs.IdsLaws.{Room, roomy, inc-zero}
+use Rattle.span.proofs.IdsLaws.{roomy, inc-zero}
 use Rattle.span.specs.Span.{lenSpan, spanCode}
-use Rattle.span.proofs.SpanLaws.{SpanOk, span-ok}
+use Rattle.span.proofs.SpanLaws.{span-ok}
 use Rattle.span.proofs.Views.{len-pos}
 use Rattle.span.specs.Units.{unitsOf, expand}
 use Rattle.store.specs.Row.{rows, rowAt}

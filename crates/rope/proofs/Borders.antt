@@ -1,25 +1,22 @@
 -- a span put at the border of two rows, and inside a row: the rows are the joined units
-use Prim.Native.Nat.{ℕ, zero, suc, _+_, _-_, _*_, _<_, _≤_}
-use mathlib.Core.Path.{_≡_, refl, sym, ap, ap₂, subst, _∙_}
-use mathlib.Core.Bool.{Bool, true, false}
+use Prim.Native.Nat.{ℕ, _+_, _-_, _*_, _<_, _≤_}
+use mathlib.Core.Path.{_≡_, refl, sym, ap, subst, _∙_}
+use mathlib.Core.Bool.{true, false}
 use mathlib.Core.List.{List, [], _∷_, _++_, append-assoc}
 use native.Mathlib.Omega.{arith}
 use native.Mathlib.Numerals.{add-one}
-use lib.ListN.{length, getD, set, take, drop, take-append-drop, length-append, length-drop}
-use lib.Seq.{set-split, length-take-le}
-use Rattle.span.specs.declared.ids.OptId.the-variants.{Nothing, At}
+use lib.ListN.{set, take, drop, take-append-drop}
+use lib.Seq.{set-split}
 use Rattle.span.specs.declared.span.FugueSpan.{FugueSpan}
-use Rattle.span.specs.Ids.{incId}
-use Rattle.span.specs.Span.{lenSpan, spanCode, shift, leftOf, partSpan, joinsSpan, mergedSpan}
-use Rattle.span.proofs.SpanLaws.{JoinOk}
-use Rattle.span.proofs.UnitLaws.{merge-units, join-to, part-ok, part-length}
+use Rattle.span.specs.Span.{lenSpan, spanCode, partSpan, joinsSpan, mergedSpan}
+use Rattle.span.proofs.UnitLaws.{merge-units, part-ok}
 use Rattle.span.specs.Units.{unitsOf, expand, Apart, Joined, join}
-use Rattle.span.proofs.Unique.{in-range, merged-ok, apart-merged, apart-cut, cut-units}
+use Rattle.span.proofs.Unique.{in-range, merged-ok, apart-merged, apart-cut}
 use Rattle.span.proofs.ForRope.{expand-append, joined-is}
 use Rattle.store.specs.Row.{rows, rowAt}
 use Rattle.store.proofs.Laws.{length-rows}
-use Rattle.rope.specs.Spans.{AllOk, bordered, Border}
-use Rattle.rope.proofs.Edges.{swap, joined-right, left-of-merged, part-to-whole, no-join, no-join-left}
+use Rattle.rope.specs.Spans.{Border}
+use Rattle.rope.proofs.Edges.{swap, joined-right, left-of-merged, part-to-whole}
 use Rattle.rope.proofs.Rights.{row-drop, row-take}
 
 -- ---- lists

@@ -40,7 +40,7 @@ clear-span s = clear-tab s 0 (lenSpan s)
 abbrev pub clearing : List FugueSpan → List FugueSpan
 clearing l = clearUnits (expand l)
 
-clear-on : (v : FugueSpan) (l : List FugueSpan) → clearing (v ∷ l) ≡ unitsOf (clearSpan v) ++ clearing l
+pub clear-on : (v : FugueSpan) (l : List FugueSpan) → clearing (v ∷ l) ≡ unitsOf (clearSpan v) ++ clearing l
 unfolding expand
 clear-on v l = clear-append (unitsOf v) (expand l) ∙ ap (λ (r : List FugueSpan). r ++ clearing l) (clear-span v)
 

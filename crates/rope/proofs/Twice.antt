@@ -49,7 +49,7 @@ module _ (n : ℕ) (s : List ℕ) (i : ℕ) where
 
 -- ---- the law
 
-distinct-append : (A B : List FugueSpan) → Distinct A → Distinct B → ((o : OptId) → memId o A ≡ true → memId o B ≡ false) → Distinct (A ++ B)
+pub distinct-append : (A B : List FugueSpan) → Distinct A → Distinct B → ((o : OptId) → memId o A ≡ true → memId o B ≡ false) → Distinct (A ++ B)
 unfolding Distinct memId
 distinct-append [] B a b f = b
 distinct-append (u ∷ A) B a b f = (
@@ -71,11 +71,11 @@ module _ (s : FugueSpan) (ok : spanCode s ≡ 0) where
   tab-distinct j zero = tt
   tab-distinct j (suc n) = (ap (λ (o : OptId). memId o (tab (unitAt s) (suc j) n)) (ap At (unit-id s j)) ∙ later j (suc j) n (omega arith), tab-distinct (suc j) n)
 
-  units-distinct : Distinct (unitsOf s)
+  pub units-distinct : Distinct (unitsOf s)
   unfolding unitsOf
   units-distinct = tab-distinct 0 (lenSpan s)
 
-  disjoint : (us : List FugueSpan) → Fresh s us → (o : OptId) → memId o us ≡ true → memId o (unitsOf s) ≡ false
+  pub disjoint : (us : List FugueSpan) → Fresh s us → (o : OptId) → memId o us ≡ true → memId o (unitsOf s) ≡ false
   unfolding Fresh
   disjoint us new o m = pick (offsetOf s o) refl
     where
@@ -133,7 +133,7 @@ unfolding distinctIds Distinct
 distinct-of [] e = tt
 distinct-of (u ∷ us) e = let w = and-true (not (memId (At (u .id)) us)) (distinctIds us) e in (not-true (memId (At (u .id)) us) (w .0), distinct-of us (w .1))
 
-of-distinct : (us : List FugueSpan) → Distinct us → distinctIds us ≡ true
+pub of-distinct : (us : List FugueSpan) → Distinct us → distinctIds us ≡ true
 unfolding distinctIds Distinct
 of-distinct [] d = refl
 of-distinct (u ∷ us) d = ap₂ (λ (a b : Bool). not a && b) (d .0) (of-distinct us (d .1))

@@ -6,7 +6,7 @@ use mathlib.Core.List.{List, [], _∷_, _++_}
 use native.Mathlib.Omega.{arith}
 use lib.Dec.{leb}
 use lib.ListN.{length, drop}
-use borrow.Author.Tests.{leb-true, le-leb, lt-leb}
+use borrow.Author.Tests.{leb-true, le-leb, lt-leb, eq-eqb}
 use Rattle.span.specs.declared.ids.Id.{Id}
 use Rattle.span.specs.declared.ids.OptId.{OptId}
 use Rattle.span.specs.declared.ids.OptId.the-variants.{Nothing, At}
@@ -14,17 +14,17 @@ use Rattle.span.specs.declared.span.FugueSpan.{FugueSpan}
 use Rattle.span.specs.Span.{lenSpan, spanCode}
 use Rattle.span.proofs.SpanLaws.{span-ok}
 use Rattle.span.proofs.Views.{len-pos}
-use Rattle.span.specs.Units.{expand, Joined}
+use Rattle.span.specs.Units.{expand, Apart, Joined}
 use Rattle.store.specs.Row.{rows}
 use Rattle.store.proofs.Laws.{length-rows}
 use Rattle.rope.specs.Place.{memId, Distinct}
-use Rattle.rope.specs.Store.{joinedRows, distinctIds, named, originsNamed, wellFormed}
+use Rattle.rope.specs.Store.{touching, joinedRows, distinctIds, named, originsNamed, wellFormed}
 use Rattle.rope.specs.Spans.{AllOk, Held, Named, AllNamed, Good, apartRows}
 use Rattle.rope.proofs.Lists.{and-true}
 use Rattle.rope.proofs.Steps.{joined-ok}
 use Rattle.rope.proofs.Checks.{joined-rows}
 use Rattle.rope.proofs.Counts.{length-span, named-at}
-use Rattle.rope.proofs.Twice.{apart-same, distinct-of}
+use Rattle.rope.proofs.Twice.{apart-same, distinct-of, of-distinct}
 
 -- ---- the check's order
 
@@ -104,3 +104,20 @@ good-of n s h e =
       distinct = f .distinct;
       named = lefts-named (rows n s) (expand (rows n s)) (f .origins);
     }
+
+-- ---- the converse: a list with these facts is well formed, so that 15 is given only as said
+
+rows-joined : (l : List FugueSpan) → Joined l → joinedRows l ≡ true
+unfolding joinedRows Joined touching Apart
+rows-joined [] j = refl
+rows-joined (s ∷ l) j = ap₂ (λ (t u : Bool). cond t (cond u false (joinedRows l)) false) (eq-eqb (spanCode s) 0 (j .0)) (apart-not s l (j .1 .0)) ∙ rows-joined l (j .1 .1)
+  where
+    apart-not : (s : FugueSpan) (l : List FugueSpan) → Apart s l → touching s l ≡ false
+    apart-not s [] a = refl
+    apart-not s (t ∷ l) a = a
+
+pub formed-back : (l : List FugueSpan) → Formed l → wellFormed l ≡ true
+unfolding wellFormed
+formed-back l f =
+    ap₂ (λ (t u : Bool). t && (u && (distinctIds (expand l) && originsNamed l (expand l)))) (rows-joined l (f .joined)) (le-leb (length (expand l)) 65536 (f .units)) ∙
+    ap₂ (λ (t u : Bool). t && u) (of-distinct (expand l) (f .distinct)) (f .origins)

@@ -11,7 +11,7 @@ use Rattle.span.specs.Span.{lenSpan, spanCode}
 use Rattle.span.specs.Units.{expand, join}
 use Rattle.store.specs.Row.{rows}
 use Rattle.rope.specs.declared.insert.Plan.{Plan}
-use Rattle.rope.specs.Limits.{UNITS}
+use Rattle.rope.specs.Limits.{UNITS, ROWS}
 use Rattle.rope.specs.Place.{shown, insertUnits}
 use Rattle.rope.specs.Store.{room, spansOf, isState}
 use Rattle.rope.specs.Codes.{unless, kept, holdsSome, insertCode}
@@ -33,6 +33,18 @@ pub record Edited (code : ℕ) (l : List FugueSpan) (r : ℕ) (s t : List ℕ) :
   pub list : spansOf t ≡ kept code l (spansOf s)
   pub head : headRest t ≡ headRest s
   pub bytes : (code ≡ 0 → ⊥) → t ≡ s
+
+-- the bytes past the rows that count: a longer room counts as ROWS rows, and the rest of it is never touched
+abbrev pub pastRows : List ℕ → List ℕ
+pastRows s = drop (72 + ROWS * 72) s
+
+pub record WrittenIn (l : List FugueSpan) (s t : List ℕ) : Type 0 where
+  pub written : Written l s t
+  pub past : pastRows t ≡ pastRows s
+
+pub record EditedIn (code : ℕ) (l : List FugueSpan) (r : ℕ) (s t : List ℕ) : Type 0 where
+  pub edited : Edited code l r s t
+  pub past : pastRows t ≡ pastRows s
 
 -- ---------------------------------------------------------------- insert
 
@@ -60,7 +72,6 @@ pub record Asked (n units : ℕ) (x : FugueSpan) (s : List ℕ) : Type 0 where
 -- a plan for the n rows of a store, which has room for what it leaves
 pub record Writable (p : Plan) (n : ℕ) (s : List ℕ) : Type 0 where
   pub head : 72 ≤ length s
-  pub few : n ≤ 65536
-  pub long : n * 72 + 72 ≤ length s
+  pub fits : n ≤ room s
   pub can : Can p n (drop 72 s)
-  pub room : planRows p n * 72 + 72 ≤ length s
+  pub after : planRows p n ≤ room s

@@ -1,5 +1,6 @@
 // What a well formed list is (refusal 15), part by part: the spans and their joins, the units, the ids, the origins.
 ghost use mathlib.Core.Path.{_≡_};
+ghost use mathlib.Core.Bool.{_&&_};
 ghost use mathlib.Core.List.{[]};
 ghost use Prim.Native.Nat.{_+_, _*_, _≤_, _<_};
 ghost use lib.ListN.{length, drop};
@@ -9,6 +10,9 @@ ghost use Rattle.rope.specs.Spans.{apartRows, AllOk};
 ghost use Rattle.rope.specs.Store.{touching, joinedRows, named, originsNamed, wellFormed};
 use crate::find::has;
 use crate::find::holds;
+use crate::order::order;
+use crate::order::origins_sorted;
+use crate::order::twice;
 use crate::place::len_of;
 use span::ids::OptId;
 use span::span::FugueSpan;
@@ -106,7 +110,35 @@ pub fn origins(s: &[u8], n: usize) -> bool
     true
 }
 
-// Whether n rows are a well formed list. Plain: each id and each origin is looked up among all rows.
+// No id twice and every origin named, plain: each id and each origin is looked up among all rows.
+fn plain(s: &[u8], n: usize) -> bool
+    requires { ⌜ (n * 72 ≤ length (now s)) × AllOk (rows n (now s)) ⌝ }
+    ensures { λ r. ⌜ r ≡ (apartRows [] (rows n (now (s .entry))) && originsNamed (rows n (now (s .entry))) (expand (rows n (now (s .entry))))) ⌝ }
+{
+    if !distinct(s, n) {
+        return false;
+    }
+    origins(s, n)
+}
+
+// The same by the order of the ids, in n log n. The plain form answers where the sort gave no order and no clash: that it always gives one is
+// not proved, and nothing rests on it.
+fn ordered(s: &[u8], n: usize) -> bool
+    requires { ⌜ (n * 72 ≤ length (now s)) × AllOk (rows n (now s)) × (n ≤ 65536) ⌝ }
+    ensures { λ r. ⌜ r ≡ (apartRows [] (rows n (now (s .entry))) && originsNamed (rows n (now (s .entry))) (expand (rows n (now (s .entry))))) ⌝ }
+{
+    let mut idx = [0u16; 65536];
+    let mut place = [0u16; 65536];
+    if order(s, n, &mut idx, &mut place) {
+        origins_sorted(s, n, &idx)
+    } else if twice(s, n, &idx) {
+        false
+    } else {
+        plain(s, n)
+    }
+}
+
+// Whether n rows are a well formed list. A short list is asked plainly.
 pub fn well_formed(s: &[u8], n: usize) -> bool
     requires { ⌜ (n * 72 ≤ length (now s)) × (n ≤ 65536) ⌝ }
     ensures { λ r. ⌜ r ≡ wellFormed (rows n (now (s .entry))) ⌝ }
@@ -117,8 +149,5 @@ pub fn well_formed(s: &[u8], n: usize) -> bool
     if UNITS < units(s, n) {
         return false;
     }
-    if !distinct(s, n) {
-        return false;
-    }
-    origins(s, n)
+    if n < 128 { plain(s, n) } else { ordered(s, n) }
 }

@@ -9,6 +9,7 @@ pub mod delete;
 pub mod edit;
 pub mod find;
 pub mod insert;
+pub mod order;
 pub mod place;
 pub mod query;
 pub mod report;

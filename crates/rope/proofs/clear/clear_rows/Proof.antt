@@ -3,18 +3,12 @@ use Rattle.rope.proofs.Streaming.{stream-start, stream-end}
 use Rattle.rope.specs.Streams.{Stream}
 use Rattle.rope.specs.Spans.{clearSpan}
 use Rattle.store.specs.Row.{rows}
-use Rattle.span.specs.declared.span.FugueSpan.{FugueSpan}
-use mathlib.Core.Path.{_≡_, refl, sym, ap, _∙_}
+use mathlib.Core.Path.{_≡_, refl, ap, _∙_}
 use lib.ListN.{length}
-use Prim.Native.Nat.{_-_, _≤_}
+use Prim.Native.Nat.{_-_}
 use native.Mathlib.Omega.{arith}
 use Rattle.rope.proofs.clear.clear_rows.Statement.{statement}
 use Rattle.rope.proofs.clear.clear_rows.Tie as tie
-use Rattle.rope.proofs.clear.clear_rows.Reads as reads
-use Rattle.rope.proofs.clear.clear_rows.Lts as lts
-use Rattle.rope.proofs.clear.cleared.Reads as cleared-reads
-use Rattle.rope.proofs.stream.push.Reads as push-reads
-use Rattle.store.proofs.get_row.Reads as get-row-reads
 
 abbrev Inv-loop : tie.InvT-loop
 Inv-loop s₀ n w₀ i₀ s w i = (length s ≡ length s₀) × Stream n w i (rows n s₀) (clearing (rows n s₀)) clearing s

@@ -3,8 +3,6 @@ use Rattle.rope.specs.Spans.{clearSpan}
 use Rattle.rope.specs.Change.{withState}
 use Rattle.rope.proofs.clear.cleared.Statement.{statement}
 use Rattle.rope.proofs.clear.cleared.Tie as tie
-use Rattle.rope.proofs.clear.cleared.Reads as reads
-use Rattle.rope.proofs.clear.cleared.Lts as lts
 
 returns : tie.Need-returns
 unfolding clearSpan withState

@@ -5,22 +5,15 @@ use Rattle.rope.specs.Codes.{holdsSome}
 use Rattle.rope.specs.Place.{shown}
 use Rattle.span.specs.Span.{lenSpan}
 use Rattle.span.specs.Units.{expand}
-use Rattle.span.specs.Ids.{UNKNOWN-PEER}
 use Rattle.rope.proofs.Admits.{holds-same, first-2, first-3, first-8, first-10, first-0}
-use Rattle.rope.proofs.WellFormed.{Formed, formed-of}
+use Rattle.rope.proofs.WellFormed.{formed-of}
 use Rattle.store.specs.Row.{rows}
 use borrow.Author.Tests.{eq-eqb, ne-eqb}
-use Prim.Native.Nat.{ℕ}
-use mathlib.Core.Path.{_≡_, sym, ap, ap₂, _∙_}
+use mathlib.Core.Path.{_≡_, sym, _∙_}
 use native.Mathlib.Omega.{arith}
 use borrow.Author.Needs.{needs}
 use Rattle.rope.proofs.edit.first_code.Statement.{statement}
 use Rattle.rope.proofs.edit.first_code.Tie as tie
-use Rattle.rope.proofs.edit.first_code.Reads as reads
-use Rattle.rope.proofs.edit.first_code.Lts as lts
-use Rattle.rope.proofs.find.holds.Reads as holds-reads
-use Rattle.rope.proofs.place.len_of.Reads as len-of-reads
-use Rattle.rope.proofs.seek.visible.Reads as visible-reads
 
 returns : tie.Need-returns
 returns c = let a = c .before .before .before .args in first-2 (rows (a .n) (a .s .now)) (a .pos) (a .x) (eq-eqb _ _ (c .if1 .taken))

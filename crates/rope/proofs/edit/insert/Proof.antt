@@ -1,15 +1,10 @@
 use Rattle.rope.proofs.Entering.{insert-none, insert-refused, insert-asks, insert-done}
 use Rattle.span.specs.Span.{newSpan}
 use borrow.Author.Tests.{not-true, not-false}
-use mathlib.Core.Path.{_≡_, sym, _∙_}
+use mathlib.Core.Path.{sym, _∙_}
 use borrow.Author.Needs.{needs}
 use Rattle.rope.proofs.edit.insert.Statement.{statement}
 use Rattle.rope.proofs.edit.insert.Tie as tie
-use Rattle.rope.proofs.edit.insert.Reads as reads
-use Rattle.rope.proofs.edit.insert.Lts as lts
-use Rattle.rope.proofs.edit.insert_span.Reads as insert-span-reads
-use Rattle.rope.proofs.state.check.Reads as check-reads
-use Rattle.span.proofs.span.FugueSpan.new.Reads as new-reads
 
 check-requires : tie.Need-check-requires
 check-requires c κs = search needs

@@ -2,15 +2,6 @@ use Rattle.rope.proofs.Entering.{state-head, state-rows, state-few, spa
 use borrow.Author.Needs.{needs}
 use Rattle.rope.proofs.edit.insert_span.Statement.{statement}
 use Rattle.rope.proofs.edit.insert_span.Tie as tie
-use Rattle.rope.proofs.edit.insert_span.Reads as reads
-use Rattle.rope.proofs.edit.insert_span.Lts as lts
-use Rattle.rope.proofs.check.units.Reads as units-reads
-use Rattle.rope.proofs.edit.first_code.Reads as first-code-reads
-use Rattle.rope.proofs.edit.write_plan.Reads as write-plan-reads
-use Rattle.rope.proofs.insert.Plan.rows.Reads as rows-reads
-use Rattle.rope.proofs.insert.plan_insert.Reads as plan-insert-reads
-use Rattle.store.proofs.header.count.Reads as count-reads
-use Rattle.store.proofs.header.room.Reads as room-reads
 
 count-requires : tie.Need-count-requires
 count-requires c κs = state-head (c .before .before .args .s .now) (c .before .before .pre .0)

@@ -3,11 +3,6 @@ use native.Mathlib.Omega.{arith}
 use borrow.Author.Needs.{needs}
 use Rattle.rope.proofs.insert.perform.Statement.{statement}
 use Rattle.rope.proofs.insert.perform.Tie as tie
-use Rattle.rope.proofs.insert.perform.Reads as reads
-use Rattle.rope.proofs.insert.perform.Lts as lts
-use Rattle.rope.proofs.insert.put_inside.Reads as put-inside-reads
-use Rattle.store.proofs.insert_row.Reads as insert-row-reads
-use Rattle.store.proofs.put_row.Reads as put-row-reads
 
 enum-known-p : tie.Need-enum-known-p
 enum-known-p c = search needs

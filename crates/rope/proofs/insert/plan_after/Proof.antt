@@ -2,13 +2,6 @@ use Rattle.rope.proofs.Planning.{after-low, after-room, after-row, afte
 use native.Mathlib.Omega.{arith}
 use Rattle.rope.proofs.insert.plan_after.Statement.{statement}
 use Rattle.rope.proofs.insert.plan_after.Tie as tie
-use Rattle.rope.proofs.insert.plan_after.Reads as reads
-use Rattle.rope.proofs.insert.plan_after.Lts as lts
-use Rattle.rope.proofs.insert.plan_scan.Reads as plan-scan-reads
-use Rattle.rope.proofs.insert.with_origins.Reads as with-origins-reads
-use Rattle.span.proofs.span.FugueSpan.left_at.Reads as left-at-reads
-use Rattle.span.proofs.span.FugueSpan.rle_len.Reads as rle-len-reads
-use Rattle.store.proofs.get_row.Reads as get-row-reads
 
 get-row-requires : tie.Need-get-row-requires
 get-row-requires c κs =

@@ -1,14 +1,9 @@
 use Rattle.rope.proofs.Planning.{plan-join, plan-own, plan-first}
 use borrow.Author.Tests.{eqb-true}
-use mathlib.Core.Path.{_≡_, sym, _∙_}
+use mathlib.Core.Path.{sym, _∙_}
 use borrow.Author.Needs.{needs}
 use Rattle.rope.proofs.insert.plan_border.Statement.{statement}
 use Rattle.rope.proofs.insert.plan_border.Tie as tie
-use Rattle.rope.proofs.insert.plan_border.Reads as reads
-use Rattle.rope.proofs.insert.plan_border.Lts as lts
-use Rattle.span.proofs.span.FugueSpan.can_merge.Reads as can-merge-reads
-use Rattle.span.proofs.span.FugueSpan.joined.Reads as joined-reads
-use Rattle.store.proofs.get_row.Reads as get-row-reads
 
 sub-get-row : tie.Need-sub-get-row
 sub-get-row c = search needs

@@ -3,11 +3,6 @@ use Rattle.rope.proofs.Planning.{start-plan}
 use Rattle.rope.proofs.Inserts.{start-border}
 use Rattle.rope.proofs.insert.plan_insert.Statement.{statement}
 use Rattle.rope.proofs.insert.plan_insert.Tie as tie
-use Rattle.rope.proofs.insert.plan_insert.Reads as reads
-use Rattle.rope.proofs.insert.plan_insert.Lts as lts
-use Rattle.rope.proofs.insert.plan_after.Reads as plan-after-reads
-use Rattle.rope.proofs.insert.plan_scan.Reads as plan-scan-reads
-use Rattle.rope.proofs.seek.seek.Reads as seek-reads
 
 plan-scan-requires : tie.Need-plan-scan-requires
 plan-scan-requires c κs =

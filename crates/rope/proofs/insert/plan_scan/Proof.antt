@@ -2,12 +2,6 @@ use Rattle.rope.proofs.Planning.{scan-low, scan-border, scan-plan}
 use native.Mathlib.Omega.{arith}
 use Rattle.rope.proofs.insert.plan_scan.Statement.{statement}
 use Rattle.rope.proofs.insert.plan_scan.Tie as tie
-use Rattle.rope.proofs.insert.plan_scan.Reads as reads
-use Rattle.rope.proofs.insert.plan_scan.Lts as lts
-use Rattle.rope.proofs.insert.plan_border.Reads as plan-border-reads
-use Rattle.rope.proofs.insert.with_origins.Reads as with-origins-reads
-use Rattle.rope.proofs.place.right_from.Reads as right-from-reads
-use Rattle.rope.proofs.place.scan_from.Reads as scan-from-reads
 
 right-from-requires : tie.Need-right-from-requires
 right-from-requires c κs = let p = c .before .pre in (p .good .held .long, p .good .held .each, p .low)

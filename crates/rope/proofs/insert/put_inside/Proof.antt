@@ -9,13 +9,6 @@ use native.Mathlib.Omega.{arith}
 use borrow.Author.Needs.{needs}
 use Rattle.rope.proofs.insert.put_inside.Statement.{statement}
 use Rattle.rope.proofs.insert.put_inside.Tie as tie
-use Rattle.rope.proofs.insert.put_inside.Reads as reads
-use Rattle.rope.proofs.insert.put_inside.Lts as lts
-use Rattle.span.proofs.span.FugueSpan.piece.Reads as piece-reads
-use Rattle.span.proofs.span.FugueSpan.rle_len.Reads as rle-len-reads
-use Rattle.store.proofs.get_row.Reads as get-row-reads
-use Rattle.store.proofs.insert_row.Reads as insert-row-reads
-use Rattle.store.proofs.put_row.Reads as put-row-reads
 
 get-row-requires : tie.Need-get-row-requires
 get-row-requires c κs = search needs

@@ -2,8 +2,6 @@ use Rattle.rope.specs.Place.{withOrigins}
 use borrow.Author.Needs.{needs}
 use Rattle.rope.proofs.insert.with_origins.Statement.{statement}
 use Rattle.rope.proofs.insert.with_origins.Tie as tie
-use Rattle.rope.proofs.insert.with_origins.Reads as reads
-use Rattle.rope.proofs.insert.with_origins.Lts as lts
 
 returns : tie.Need-returns
 unfolding withOrigins

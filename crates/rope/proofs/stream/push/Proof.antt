@@ -1,16 +1,10 @@
 use Rattle.rope.proofs.Streaming.{pushed-merge, pushed-own, pushed-first}
-use mathlib.Core.Path.{_≡_, sym, _∙_}
+use mathlib.Core.Path.{sym, _∙_}
 use borrow.Author.Tests.{eqb-true}
 use native.Mathlib.Omega.{arith}
 use borrow.Author.Needs.{needs}
 use Rattle.rope.proofs.stream.push.Statement.{statement}
 use Rattle.rope.proofs.stream.push.Tie as tie
-use Rattle.rope.proofs.stream.push.Reads as reads
-use Rattle.rope.proofs.stream.push.Lts as lts
-use Rattle.span.proofs.span.FugueSpan.can_merge.Reads as can-merge-reads
-use Rattle.span.proofs.span.FugueSpan.joined.Reads as joined-reads
-use Rattle.store.proofs.get_row.Reads as get-row-reads
-use Rattle.store.proofs.put_row.Reads as put-row-reads
 
 sub-get-row : tie.Need-sub-get-row
 sub-get-row c = search needs

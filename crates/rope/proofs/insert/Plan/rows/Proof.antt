@@ -1,11 +1,9 @@
 use Rattle.rope.specs.Plans.{planRows}
 use Rattle.rope.specs.declared.insert.Plan.{Plan}
-use mathlib.Core.Path.{_≡_, sym, ap}
+use mathlib.Core.Path.{sym, ap}
 use borrow.Author.Needs.{needs}
 use Rattle.rope.proofs.insert.Plan.rows.Statement.{statement}
 use Rattle.rope.proofs.insert.Plan.rows.Tie as tie
-use Rattle.rope.proofs.insert.Plan.rows.Reads as reads
-use Rattle.rope.proofs.insert.Plan.rows.Lts as lts
 
 enum-told : tie.Need-enum-told
 enum-told c = search needs

@@ -1,0 +1,70 @@
+use mathlib.Core.Path.{sym, ap, _∙_}
+use mathlib.Core.Bool.{Bool, _&&_}
+use lib.ListN.{length-replicate}
+use Rattle.span.specs.Units.{expand}
+use Rattle.store.specs.Row.{rows}
+use Rattle.rope.specs.Store.{originsNamed}
+use Rattle.rope.proofs.Orders.{sorted-apart}
+use borrow.Author.Needs.{needs}
+use Rattle.rope.proofs.check.ordered.Statement.{statement}
+use Rattle.rope.proofs.check.ordered.Tie as tie
+use Rattle.rope.proofs.check.ordered.Reads as reads
+use Rattle.rope.proofs.check.ordered.Lts as lts
+use Rattle.rope.proofs.check.plain.Reads as plain-reads
+use Rattle.rope.proofs.order.order.Reads as order-reads
+use Rattle.rope.proofs.order.origins_sorted.Reads as origins-sorted-reads
+use Rattle.rope.proofs.order.twice.Reads as twice-reads
+
+slice-aggregate-order : tie.Need-slice-aggregate-order
+slice-aggregate-order c = search needs
+
+slice-aggregate-order-2 : tie.Need-slice-aggregate-order-2
+slice-aggregate-order-2 c = search needs
+
+order-requires : tie.Need-order-requires
+order-requires c κs = let p = c .before .before .before .pre in
+    (p .0, p .1, rw length-replicate (p .2), rw length-replicate (p .2), p .2)
+
+slice-aggregate-origins-sorted : tie.Need-slice-aggregate-origins-sorted
+slice-aggregate-origins-sorted c = search needs
+
+origins-sorted-requires : tie.Need-origins-sorted-requires
+origins-sorted-requires c κs = let p = c .before .before .before .before .before .before .before .before .pre in
+    (p .0, p .1, c .before .before .before .before .order .ensures (c .before .if1 .taken))
+
+slice-aggregate-twice : tie.Need-slice-aggregate-twice
+slice-aggregate-twice c = search needs
+
+twice-requires : tie.Need-twice-requires
+twice-requires c κs = search needs
+
+plain-requires : tie.Need-plain-requires
+plain-requires c κs = search needs
+
+returns : tie.Need-returns
+returns c = let e = c .before .before .before .before .before .before .before .before .before in
+    let a = e .args in
+    c .origins-sorted .ensures ∙ sym (ap (λ (t : Bool). t && originsNamed (rows (a .n) (a .s .now)) (expand (rows (a .n) (a .s .now)))) (sorted-apart (a .n) (a .s .now) _ (e .pre .1) (c .before .before .before .before .before .order .ensures (c .before .before .if1 .taken))))
+
+returns-2 : tie.Need-returns-2
+returns-2 c = let a = c .before .before .before .before .before .before .before .before .before .before .args in
+    sym (ap (λ (t : Bool). t && originsNamed (rows (a .n) (a .s .now)) (expand (rows (a .n) (a .s .now)))) (c .before .twice .ensures (c .if2 .taken)))
+
+returns-3 : tie.Need-returns-3
+returns-3 c = search needs
+
+pub ordered-spec : {M : Type 1} → statement M
+ordered-spec =
+    tie.close
+    (tie.spec
+    slice-aggregate-order
+    slice-aggregate-order-2
+    order-requires
+    slice-aggregate-origins-sorted
+    origins-sorted-requires
+    slice-aggregate-twice
+    twice-requires
+    plain-requires
+    returns
+    returns-2
+    returns-3)
