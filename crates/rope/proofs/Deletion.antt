@@ -28,16 +28,16 @@ use Rattle.rope.specs.Place.{front, behind, shown}
 use Rattle.rope.specs.Store.{count, room, spansOf, wellFormed, isState}
 use Rattle.rope.specs.Change.{deleteUnits, pieces}
 use Rattle.rope.specs.Codes.{unless, deleteCode}
-use Rattle.rope.specs.Spans.{Stored}
+use Rattle.rope.specs.Spans.{AllOk, Stored}
 use Rattle.rope.specs.Pieces.{allPieces}
 use Rattle.rope.specs.Applies.{Counts, Deletes}
 use Rattle.rope.specs.Reports.{Report, Listed}
-use Rattle.rope.specs.Edits.{headRest, Written}
+use Rattle.rope.specs.Edits.{headRest, WrittenIn}
 use Rattle.rope.specs.Deletions.{outRows, deleteNumber, deleteList, deleteRest, Deleted, Removes}
 use Rattle.rope.proofs.WellFormed.{Formed, formed-of}
-use Rattle.rope.proofs.States.{part, part-rest, part-length, room-most, room-long}
-use Rattle.rope.proofs.Editing.{back, written-back, edited-refused, edited-done}
-use Rattle.rope.proofs.Entering.{state-head, state-stored, state-formed, state-few, rows-are}
+use Rattle.rope.proofs.States.{part, part-rest}
+use Rattle.rope.proofs.Editing.{back-in, refused-in, done-in}
+use Rattle.rope.proofs.Entering.{state-head, state-stored, state-formed, state-few, state-fits, rows-are, lent, lent-long, lent-rows, lent-back}
 use Rattle.rope.proofs.Deletes.{delete-law, delete-fits, first-zero}
 use Rattle.rope.proofs.Reporting.{touched-none}
 
@@ -132,28 +132,31 @@ counts-of n s d w = record { few = w .taken .few; long = w .taken .long; fit = d
 pub count-is : (n : ℕ) (s : List ℕ) (d : Delete) → Report d n s → (k : ℕ) → k ≡ length (join (expand (allPieces (Ch.Delete d) (rows n s)))) → k ≡ length (join (deleteUnits (d .at) (d .len) (d .start) (expand (rows n s))))
 count-is n s d w k e = e ∙ ap (λ (l : List FugueSpan). length (join l)) (delete-law d (rows n s) (w .taken .each))
 
--- ---- the rows of a store
+-- ---- the rows of a store, in the room that is lent, which ends at e
 
-module _ (d : Delete) (n : ℕ) (s : List ℕ) (w : Removes d n s) where
-  pub removes-asks : Deletes n (d .at) (d .len) (d .start) (part s)
+module _ (d : Delete) (n : ℕ) (s : List ℕ) (w : Removes d n s) (e : ℕ) (ee : e ≡ 72 + room s * 72) where
+  abbrev lend : List ℕ
+  lend = lent s (w .head) e ee
+
+  same : rows n lend ≡ rows n (drop 72 s)
+  same = lent-rows s (w .head) e ee n (w .fits)
+
+  pub removes-asks : Deletes n (d .at) (d .len) (d .start) lend
   removes-asks =
-      subst (Deletes n (d .at) (d .len) (d .start)) (sym (part-rest s))
-      (record {
-        long = w .ready .taken .long;
-        each = w .ready .taken .each;
+      let l = lent-long s (w .head) e ee in
+      record {
+        long = omega (arith, l, ee, w .fits);
+        each = subst AllOk (sym same) (w .ready .taken .each);
         fits = w .ready .taken .can .fits;
         ids = w .ready .taken .can .room;
-        room = omega (arith, w .room, rest-length);
-      })
-    where
-      rest-length : length (drop 72 s) ≡ length s - 72
-      rest-length = ap length (sym (part-rest s)) ∙ part-length s
+        room = (let a = subst (λ (r : List FugueSpan). length (join (deleteUnits (d .at) (d .len) (d .start) (expand r))) ≤ room s) (sym same) (w .after) in omega (arith, a, l, ee));
+      }
 
-  pub removes-done : (q t : List ℕ) (k m : ℕ) → rows k q ≡ join (deleteUnits (d .at) (d .len) (d .start) (expand (rows n (part s)))) → m ≡ k → t ≡ put 0 (bytesOf 8 m) (back s q (w .head)) → Written (join (deleteUnits (d .at) (d .len) (d .start) (expand (rows n (drop 72 s))))) s t
-  removes-done q t k m e em et =
-      let f : rows k q ≡ join (deleteUnits (d .at) (d .len) (d .start) (expand (rows n (drop 72 s)))) = e ∙ ap (λ (b : List ℕ). join (deleteUnits (d .at) (d .len) (d .start) (expand (rows n b)))) (part-rest s) in
-      let z : k ≡ length (join (deleteUnits (d .at) (d .len) (d .start) (expand (rows n (drop 72 s))))) = sym (length-rows k q) ∙ ap length f in
-      written-back s q t m (join (deleteUnits (d .at) (d .len) (d .start) (expand (rows n (drop 72 s))))) (w .head) (omega (arith, em, z, w .few)) et (ap (λ (a : ℕ). rows a q) em ∙ f)
+  pub removes-done : (q t : List ℕ) (k m : ℕ) → length q ≡ length lend → rows k q ≡ join (deleteUnits (d .at) (d .len) (d .start) (expand (rows n lend))) → m ≡ k → t ≡ put 0 (bytesOf 8 m) (back-in s q (e - 72) (w .head)) → WrittenIn (join (deleteUnits (d .at) (d .len) (d .start) (expand (rows n (drop 72 s))))) s t
+  removes-done q t k m len f em et =
+      let g : rows k q ≡ join (deleteUnits (d .at) (d .len) (d .start) (expand (rows n (drop 72 s)))) = f ∙ ap (λ (r : List FugueSpan). join (deleteUnits (d .at) (d .len) (d .start) (expand r))) same in
+      let z : k ≡ length (join (deleteUnits (d .at) (d .len) (d .start) (expand (rows n (drop 72 s))))) = sym (length-rows k q) ∙ ap length g in
+      lent-back s (w .head) e ee q t m (join (deleteUnits (d .at) (d .len) (d .start) (expand (rows n (drop 72 s))))) len (omega (arith, em, z, w .after)) et (ap (λ (a : ℕ). rows a q) em ∙ g)
 
 -- ---- delete_some
 
@@ -184,7 +187,7 @@ module _ (s o : List ℕ) (d : Delete) (reversed : Bool) (st : isState s ≡ tru
     some-refused z =
         record {
           answered = is-refused Done Refused code k (length gone) z same-code;
-          store = edited-refused code list code s refl (λ e. z (same-code ∙ e));
+          store = refused-in code list code s refl (λ e. z (same-code ∙ e));
           output = λ e. absurd (z (same-code ∙ e));
           kept = λ e. refl;
         }
@@ -204,19 +207,19 @@ module _ (s o : List ℕ) (d : Delete) (reversed : Bool) (st : isState s ≡ tru
           record {
             head = state-head s st;
             ready = subst (Report d n) (part-rest s) some-report;
-            few = (let a = subst (λ (b : List ℕ). length (join (deleteUnits (d .at) (d .len) (d .start) (expand (rows n b)))) ≤ most) (part-rest s) (free .fit) in omega (arith, a, em, room-most s));
-            room = (let a = subst (λ (b : List ℕ). length (join (deleteUnits (d .at) (d .len) (d .start) (expand (rows n b)))) ≤ most) (part-rest s) (free .fit) in omega (arith, a, em, room-long s, state-head s st));
+            fits = state-fits s st n en;
+            after = (let a = subst (λ (b : List ℕ). length (join (deleteUnits (d .at) (d .len) (d .start) (expand (rows n b)))) ≤ most) (part-rest s) (free .fit) in omega (arith, a, em));
           }
 
-      pub some-done : (r : ℕ) (t p : List ℕ) → Listed (pieces (rows n (part s)) (d .at) (d .len) reversed) r o p → Written (join (deleteUnits (d .at) (d .len) (d .start) (expand (rows n (drop 72 s))))) s t → Deleted code list gone (Done r) s o t p
+      pub some-done : (r : ℕ) (t p : List ℕ) → Listed (pieces (rows n (part s)) (d .at) (d .len) reversed) r o p → WrittenIn (join (deleteUnits (d .at) (d .len) (d .start) (expand (rows n (drop 72 s))))) s t → Deleted code list gone (Done r) s o t p
       some-done r t p ls wr =
           let c0 : code ≡ 0 = sym same-code ∙ z in
           let ls2 : Listed gone r o p = subst (λ (l : List FugueSpan). Listed (pieces l (d .at) (d .len) reversed) r o p) (rows-are s st n en) ls in
           record {
             answered = is-done Done Refused code c0 (ls2 .number);
             store =
-                edited-done code list code s t c0 c0
-                (subst (λ (l : List FugueSpan). Written l s t) (ap (λ (b : List ℕ). join (deleteUnits (d .at) (d .len) (d .start) (expand (rows n b)))) (sym (part-rest s)) ∙ ap (λ (l : List FugueSpan). join (deleteUnits (d .at) (d .len) (d .start) (expand l))) (rows-are s st n en)) wr);
+                done-in code list code s t c0 c0
+                (subst (λ (l : List FugueSpan). WrittenIn l s t) (ap (λ (b : List ℕ). join (deleteUnits (d .at) (d .len) (d .start) (expand (rows n b)))) (sym (part-rest s)) ∙ ap (λ (l : List FugueSpan). join (deleteUnits (d .at) (d .len) (d .start) (expand l))) (rows-are s st n en)) wr);
             output = λ e. record { number = refl; list = ls2 .list; kept = ls2 .kept };
             kept = λ e. absurd (e c0);
           }
@@ -268,7 +271,7 @@ module _ (s o : List ℕ) (at len : ℕ) (start : Id) (reversed : Bool) where
       let z : number ≡ 0 → ⊥ = (λ q. let w : _≡_ {A = ℕ} 15 0 = sym (number-none e) ∙ q in omega (arith, w)) in
       record {
         answered = is-refused Done Refused number 15 (length out) (λ q. omega (arith, q)) (sym (number-none e));
-        store = edited-refused number left number s refl z;
+        store = refused-in number left number s refl z;
         output = λ q. absurd (z q);
         kept = λ q. refl;
       }
@@ -281,7 +284,7 @@ module _ (s o : List ℕ) (at len : ℕ) (start : Id) (reversed : Bool) where
       let same : left ≡ spansOf s = ap (λ (n : ℕ). join (deleteUnits at n start (expand (spansOf s)))) z ∙ (ap join (empty-units at start (expand (spansOf s))) ∙ join-expand (spansOf s) (formed-of (spansOf s) w .joined)) in
       record {
         answered = is-done Done Refused number c (sym (ap length no));
-        store = edited-done number left number s s c c (record { list = sym same; head = refl });
+        store = done-in number left number s s c c (record { written = record { list = sym same; head = refl }; past = refl });
         output = λ q. record { number = refl; list = ap (λ (l : List FugueSpan). rows (length l) o) no ∙ (rows-zero o ∙ sym no); kept = refl };
         kept = λ q. refl;
       }
@@ -293,8 +296,8 @@ module _ (s o : List ℕ) (at len : ℕ) (start : Id) (reversed : Bool) where
 pub deleted-same : (code : ℕ) (l ps : List FugueSpan) (q r : DeleteAnswer) (s o t p t2 p2 : List ℕ) → Deleted code l ps q s o t p → Deleted code l ps r s o t2 p2 → (q ≡ r) × (spansOf t ≡ spansOf t2) × (headRest t ≡ headRest t2) × (code ≡ 0 → (rows (length ps) p ≡ rows (length ps) p2) × (drop (length ps * 72) p ≡ drop (length ps * 72) p2)) × ((code ≡ 0 → ⊥) → (t ≡ t2) × (p ≡ p2))
 deleted-same code l ps q r s o t p t2 p2 v w = (
   v .answered ∙ sym (w .answered),
-  v .store .list ∙ sym (w .store .list),
-  v .store .head ∙ sym (w .store .head),
+  v .store .edited .list ∙ sym (w .store .edited .list),
+  v .store .edited .head ∙ sym (w .store .edited .head),
   λ z. (v .output z .list ∙ sym (w .output z .list), v .output z .kept ∙ sym (w .output z .kept)),
-  λ z. (v .store .bytes z ∙ sym (w .store .bytes z), v .kept z ∙ sym (w .kept z)),
+  λ z. (v .store .edited .bytes z ∙ sym (w .store .edited .bytes z), v .kept z ∙ sym (w .kept z)),
 )

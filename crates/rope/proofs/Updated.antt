@@ -19,18 +19,18 @@ use Rattle.store.proofs.Laws.{length-rows}
 use Rattle.rope.specs.declared.change.Update.{Update}
 use Rattle.rope.specs.declared.change.Change.the-variants as Ch
 use Rattle.rope.specs.Limits.{fits}
-use Rattle.rope.specs.Place.{memId}
+use Rattle.rope.specs.Place.{memId, Distinct}
 use Rattle.rope.specs.Store.{count, room, spansOf, wellFormed, isState}
 use Rattle.rope.specs.Codes.{unless, holdsAll, countsFit, updateCode}
 use Rattle.rope.specs.Spans.{AllOk}
 use Rattle.rope.specs.Pieces.{allPieces}
 use Rattle.rope.specs.Applies.{Counts, Updates}
-use Rattle.rope.specs.Edits.{Written, Edited}
+use Rattle.rope.specs.Edits.{WrittenIn, EditedIn}
 use Rattle.rope.specs.Updated.{updatedUnits, updateList, updateRest, Fitting, Rewrites}
 use Rattle.rope.proofs.WellFormed.{Formed, formed-of}
-use Rattle.rope.proofs.States.{part, part-rest, part-length, room-most, room-long}
-use Rattle.rope.proofs.Editing.{back, written-back, edited-refused, edited-done}
-use Rattle.rope.proofs.Entering.{state-head, state-stored, state-formed, state-few, rows-are}
+use Rattle.rope.proofs.States.{part, part-rest}
+use Rattle.rope.proofs.Editing.{back-in, refused-in, done-in}
+use Rattle.rope.proofs.Entering.{state-head, state-stored, state-formed, state-few, state-fits, rows-are, lent, lent-long, lent-rows, lent-back}
 use Rattle.rope.proofs.Updating.{update-law, update-fits}
 
 -- ---- every id of a range is held
@@ -114,28 +114,33 @@ module _ (n : ℕ) (u : Update) (s : List ℕ) (w : Fitting n u s) where
   pub fit-count : (k : ℕ) → k ≡ length (join (expand (allPieces (Ch.Update u) (rows n s)))) → k ≡ length (join (updatedUnits u (expand (rows n s))))
   fit-count k e = e ∙ ap (λ (l : List FugueSpan). length (join l)) (update-law u (rows n s) (f .each) (omega (arith, w .some)))
 
-  pub fit-updates : length (join (updatedUnits u (expand (rows n s)))) * 72 ≤ length s → Updates n u s
-  fit-updates room =
+-- ---- the rows of a store, in the room that is lent, which ends at e
+
+module _ (u : Update) (n : ℕ) (s : List ℕ) (w : Rewrites u n s) (e : ℕ) (ee : e ≡ 72 + room s * 72) where
+  abbrev lend : List ℕ
+  lend = lent s (w .head) e ee
+
+  same : rows n lend ≡ rows n (drop 72 s)
+  same = lent-rows s (w .head) e ee n (w .fits)
+
+  pub rewrites-asks : Updates n u lend
+  rewrites-asks =
+      let l = lent-long s (w .head) e ee in
+      let g = formed-of (rows n (drop 72 s)) (w .ready .stored .formed) in
       record {
-        long = w .stored .long;
-        each = f .each;
-        distinct = f .distinct;
-        order = omega (arith, w .some);
-        counts = w .counts;
-        room = room;
+        long = omega (arith, l, ee, w .fits);
+        each = subst AllOk (sym same) (g .each);
+        distinct = subst (λ (r : List FugueSpan). Distinct (expand r)) (sym same) (g .distinct);
+        order = omega (arith, w .ready .some);
+        counts = subst (λ (r : List FugueSpan). countsFit (u .peer) (pos (u .from)) (pos (u .to)) (u .change) (u .diff) (expand r) ≡ true) (sym same) (w .ready .counts);
+        room = (let a = subst (λ (r : List FugueSpan). length (join (updatedUnits u (expand r))) ≤ room s) (sym same) (w .after) in omega (arith, a, l, ee));
       }
 
--- ---- the rows of a store
-
-module _ (u : Update) (n : ℕ) (s : List ℕ) (w : Rewrites u n s) where
-  pub rewrites-asks : Updates n u (part s)
-  rewrites-asks = subst (Updates n u) (sym (part-rest s)) (w .ready)
-
-  pub rewrites-done : (q t : List ℕ) (k m : ℕ) → rows k q ≡ join (updatedUnits u (expand (rows n (part s)))) → m ≡ k → t ≡ put 0 (bytesOf 8 m) (back s q (w .head)) → Written (join (updatedUnits u (expand (rows n (drop 72 s))))) s t
-  rewrites-done q t k m e em et =
-      let f : rows k q ≡ join (updatedUnits u (expand (rows n (drop 72 s)))) = e ∙ ap (λ (b : List ℕ). join (updatedUnits u (expand (rows n b)))) (part-rest s) in
-      let z : k ≡ length (join (updatedUnits u (expand (rows n (drop 72 s))))) = sym (length-rows k q) ∙ ap length f in
-      written-back s q t m (join (updatedUnits u (expand (rows n (drop 72 s))))) (w .head) (omega (arith, em, z, w .few)) et (ap (λ (a : ℕ). rows a q) em ∙ f)
+  pub rewrites-done : (q t : List ℕ) (k m : ℕ) → length q ≡ length lend → rows k q ≡ join (updatedUnits u (expand (rows n lend))) → m ≡ k → t ≡ put 0 (bytesOf 8 m) (back-in s q (e - 72) (w .head)) → WrittenIn (join (updatedUnits u (expand (rows n (drop 72 s))))) s t
+  rewrites-done q t k m len f em et =
+      let g : rows k q ≡ join (updatedUnits u (expand (rows n (drop 72 s)))) = f ∙ ap (λ (r : List FugueSpan). join (updatedUnits u (expand r))) same in
+      let z : k ≡ length (join (updatedUnits u (expand (rows n (drop 72 s))))) = sym (length-rows k q) ∙ ap length g in
+      lent-back s (w .head) e ee q t m (join (updatedUnits u (expand (rows n (drop 72 s))))) len (omega (arith, em, z, w .after)) et (ap (λ (a : ℕ). rows a q) em ∙ g)
 
 -- ---- update_fitting
 
@@ -162,8 +167,8 @@ module _ (s : List ℕ) (u : Update) (st : isState s ≡ true) (some : u .from <
       ap₂ (λ (a : ℕ) (l : List FugueSpan). updateRest a l u) (sym em) (sym (rows-are s st n en))
 
   module _ (k : ℕ) (ek : k ≡ updateRest most (rows n (part s)) u) where
-    pub some-refused : (k ≡ 0 → ⊥) → Edited code list k s s
-    some-refused z = edited-refused code list k s (ek ∙ sym code-is) z
+    pub some-refused : (k ≡ 0 → ⊥) → EditedIn code list k s s
+    some-refused z = refused-in code list k s (ek ∙ sym code-is) z
 
     module _ (z : k ≡ 0) where
       fits-most : length (join (updatedUnits u (expand (rows n (part s))))) ≤ most
@@ -173,11 +178,12 @@ module _ (s : List ℕ) (u : Update) (st : isState s ≡ true) (some : u .from <
       some-rewrites =
           record {
             head = state-head s st;
-            few = (let a = subst (λ (b : List ℕ). length (join (updatedUnits u (expand (rows n b)))) ≤ most) (part-rest s) fits-most in omega (arith, a, em, room-most s));
-            ready = subst (Updates n u) (part-rest s) (fit-updates n u (part s) some-fits (omega (arith, fits-most, em, room-long s, part-length s)));
+            ready = subst (Fitting n u) (part-rest s) some-fits;
+            fits = state-fits s st n en;
+            after = (let a = subst (λ (b : List ℕ). length (join (updatedUnits u (expand (rows n b)))) ≤ most) (part-rest s) fits-most in omega (arith, a, em));
           }
 
-      pub some-done : (t : List ℕ) → Written (join (updatedUnits u (expand (rows n (drop 72 s))))) s t → Edited code list 0 s t
+      pub some-done : (t : List ℕ) → WrittenIn (join (updatedUnits u (expand (rows n (drop 72 s))))) s t → EditedIn code list 0 s t
       some-done t w =
-          edited-done code list 0 s t refl (code-is ∙ (sym ek ∙ z))
-          (subst (λ (l : List FugueSpan). Written l s t) (ap (λ (b : List ℕ). join (updatedUnits u (expand (rows n b)))) (sym (part-rest s)) ∙ ap (λ (l : List FugueSpan). join (updatedUnits u (expand l))) (rows-are s st n en)) w)
+          done-in code list 0 s t refl (code-is ∙ (sym ek ∙ z))
+          (subst (λ (l : List FugueSpan). WrittenIn l s t) (ap (λ (b : List ℕ). join (updatedUnits u (expand (rows n b)))) (sym (part-rest s)) ∙ ap (λ (l : List FugueSpan). join (updatedUnits u (expand l))) (rows-are s st n en)) w)

@@ -1,5 +1,5 @@
 -- What a delete answers and leaves, on the lent bytes of a store and of an output. Assumes nothing.
-use Prim.Native.Nat.{ℕ, _+_, _*_, _/_, _≤_}
+use Prim.Native.Nat.{ℕ, _+_, _/_, _≤_}
 use mathlib.Core.Path.{_≡_}
 use mathlib.Core.Bool.{Bool}
 use mathlib.Core.List.{List}
@@ -21,7 +21,7 @@ use Rattle.rope.specs.Store.{room, spansOf, isState}
 use Rattle.rope.specs.Change.{deleteUnits, pieces}
 use Rattle.rope.specs.Codes.{unless, deleteCode}
 use Rattle.rope.specs.Reports.{Report, Listed}
-use Rattle.rope.specs.Edits.{Edited}
+use Rattle.rope.specs.Edits.{EditedIn}
 
 -- the rows of a lent output
 abbrev pub outRows : List ℕ → List FugueSpan
@@ -47,7 +47,7 @@ deleteRest most places l d reversed =
 -- output o. A refused one keeps every byte of both; a done one keeps the output past its last entry.
 pub record Deleted (code : ℕ) (l ps : List FugueSpan) (r : DeleteAnswer) (s o t p : List ℕ) : Type 0 where
   pub answered : r ≡ answer Done Refused code (length ps)
-  pub store : Edited code l code s t
+  pub store : EditedIn code l code s t
   pub output : code ≡ 0 → Listed ps (length ps) o p
   pub kept : (code ≡ 0 → ⊥) → p ≡ o
 
@@ -55,5 +55,5 @@ pub record Deleted (code : ℕ) (l ps : List FugueSpan) (r : DeleteAnswer) (s o 
 pub record Removes (d : Delete) (n : ℕ) (s : List ℕ) : Type 0 where
   pub head : 72 ≤ length s
   pub ready : Report d n (drop 72 s)
-  pub few : length (join (deleteUnits (d .at) (d .len) (d .start) (expand (rows n (drop 72 s))))) ≤ 65536
-  pub room : length (join (deleteUnits (d .at) (d .len) (d .start) (expand (rows n (drop 72 s))))) * 72 + 72 ≤ length s
+  pub fits : n ≤ room s
+  pub after : length (join (deleteUnits (d .at) (d .len) (d .start) (expand (rows n (drop 72 s))))) ≤ room s

@@ -11,11 +11,10 @@ use Rattle.span.specs.Units.{expand, join}
 use Rattle.store.specs.Row.{rows}
 use Rattle.rope.specs.declared.change.Update.{Update}
 use Rattle.rope.specs.Limits.{fits}
-use Rattle.rope.specs.Store.{spansOf}
+use Rattle.rope.specs.Store.{room, spansOf}
 use Rattle.rope.specs.Change.{updateUnits}
 use Rattle.rope.specs.Codes.{unless, holdsAll, countsFit}
 use Rattle.rope.specs.Spans.{Stored}
-use Rattle.rope.specs.Applies.{Updates}
 
 -- the units after an update, the list that it leaves
 abbrev pub updatedUnits : Update → List FugueSpan → List FugueSpan
@@ -41,5 +40,6 @@ pub record Fitting (n : ℕ) (u : Update) (s : List ℕ) : Type 0 where
 -- an update for the n rows of a store, which has room for what it leaves
 pub record Rewrites (u : Update) (n : ℕ) (s : List ℕ) : Type 0 where
   pub head : 72 ≤ length s
-  pub few : length (join (updatedUnits u (expand (rows n (drop 72 s))))) ≤ 65536
-  pub ready : Updates n u (drop 72 s)
+  pub ready : Fitting n u (drop 72 s)
+  pub fits : n ≤ room s
+  pub after : length (join (updatedUnits u (expand (rows n (drop 72 s))))) ≤ room s

@@ -10,12 +10,13 @@ ghost use Rattle.rope.specs.Store.{room, spansOf, isState};
 ghost use Rattle.rope.specs.Codes.{deleteCode};
 ghost use Rattle.rope.specs.Spans.{Stored};
 ghost use Rattle.rope.specs.Applies.{Deletes};
-ghost use Rattle.rope.specs.Edits.{Written};
+ghost use Rattle.rope.specs.Edits.{WrittenIn};
 ghost use Rattle.rope.specs.Deletions.{outRows, deleteNumber, deleteList, deleteRest, Deleted, Removes};
 use crate::apply::apply;
 use crate::apply::count;
 use crate::change::Change;
 use crate::change::Delete;
+use crate::edit::room_end;
 use crate::report::removed_len;
 use crate::report::report;
 use crate::seek::visible;
@@ -79,9 +80,10 @@ pub fn refuse_delete(
 // The delete carried out in the rows of a store, and their number set.
 pub fn write_delete(s: &mut [u8], n: usize, d: Delete)
     requires { ⌜ Removes d n (now s) ⌝ }
-    ensures { λ _. ⌜ Written (join (deleteUnits (d .at) (d .len) (d .start) (expand (rows n (drop 72 (now (s .entry))))))) (now (s .entry)) (now (s .exit)) ⌝ }
+    ensures { λ _. ⌜ WrittenIn (join (deleteUnits (d .at) (d .len) (d .start) (expand (rows n (drop 72 (now (s .entry))))))) (now (s .entry)) (now (s .exit)) ⌝ }
 {
-    let k = delete_rows(&mut s[72..], n, d.at, d.len, d.start);
+    let end = room_end(s);
+    let k = delete_rows(&mut s[72..end], n, d.at, d.len, d.start);
     header::set_count(s, k as u64)
 }
 

@@ -15,12 +15,13 @@ ghost use Rattle.rope.specs.Store.{room, spansOf, isState};
 ghost use Rattle.rope.specs.Codes.{holdsAll, countsFit, updateCode};
 ghost use Rattle.rope.specs.Spans.{AllOk};
 ghost use Rattle.rope.specs.Applies.{Updates};
-ghost use Rattle.rope.specs.Edits.{Written, Edited};
+ghost use Rattle.rope.specs.Edits.{WrittenIn, EditedIn};
 ghost use Rattle.rope.specs.Updated.{updateList, updateRest, Fitting, Rewrites};
 use crate::apply::apply;
 use crate::apply::count;
 use crate::change::Change;
 use crate::change::Update;
+use crate::edit::room_end;
 use crate::find::has;
 use span::ids::Id;
 use span::ids::OptId;
@@ -79,9 +80,10 @@ pub fn refuse_fitting(s: &[u8], n: usize, u: Update, most: usize) -> u8
 // The update carried out in the rows of a store, and their number set.
 pub fn write_update(s: &mut [u8], n: usize, u: Update)
     requires { ⌜ Rewrites u n (now s) ⌝ }
-    ensures { λ _. ⌜ Written (join (updateUnits (u .peer) (pos (u .from)) (pos (u .to)) (u .set) (u .change) (u .diff) (expand (rows n (drop 72 (now (s .entry))))))) (now (s .entry)) (now (s .exit)) ⌝ }
+    ensures { λ _. ⌜ WrittenIn (join (updateUnits (u .peer) (pos (u .from)) (pos (u .to)) (u .set) (u .change) (u .diff) (expand (rows n (drop 72 (now (s .entry))))))) (now (s .entry)) (now (s .exit)) ⌝ }
 {
-    let k = update_rows(&mut s[72..], n, u);
+    let end = room_end(s);
+    let k = update_rows(&mut s[72..end], n, u);
     header::set_count(s, k as u64)
 }
 
@@ -89,7 +91,7 @@ pub fn write_update(s: &mut [u8], n: usize, u: Update)
 // refusal.
 pub fn update_fitting(s: &mut [u8], u: Update) -> u8
     requires { ⌜ (isState (now s) ≡ true) × (u .from < u .to) × (u .to ≤ 2147483647) × (countsFit (u .peer) (pos (u .from)) (pos (u .to)) (u .change) (u .diff) (expand (spansOf (now s))) ≡ true) ⌝ }
-    ensures { λ r. ⌜ Edited (updateCode (room (now (s .entry))) (spansOf (now (s .entry))) (u .peer) (pos (u .from)) (pos (u .to)) (u .set) (u .change) (u .diff)) (updateList (now (s .entry)) u) r (now (s .entry)) (now (s .exit)) ⌝ }
+    ensures { λ r. ⌜ EditedIn (updateCode (room (now (s .entry))) (spansOf (now (s .entry))) (u .peer) (pos (u .from)) (pos (u .to)) (u .set) (u .change) (u .diff)) (updateList (now (s .entry)) u) r (now (s .entry)) (now (s .exit)) ⌝ }
 {
     let n = header::count(s) as usize;
     let most = header::room(s);
