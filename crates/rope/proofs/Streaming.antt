@@ -23,7 +23,7 @@ use Rattle.rope.proofs.Twice.{rows-take}
 
 -- ---- one span pushed on to a joined list
 
-units-append : (us vs : List FugueSpan) → AllUnits us → AllUnits vs → AllUnits (us ++ vs)
+pub units-append : (us vs : List FugueSpan) → AllUnits us → AllUnits vs → AllUnits (us ++ vs)
 unfolding AllUnits
 units-append [] vs a b = b
 units-append (u ∷ us) vs a b = (a .0, (a .1 .0, units-append us vs (a .1 .1) b))

@@ -17,6 +17,8 @@ use Rattle.span.specs.Status.{status, activated}
 use Rattle.span.specs.Span.{activeLen, partSpan}
 use Rattle.span.specs.Units.{expand}
 use Rattle.rope.specs.Place.{front, behind}
+pub use Rattle.rope.specs.declared.change.SetFuture.{SetFuture}
+pub use Rattle.rope.specs.declared.change.SetFuture.the-variants.{Keep, Now, Future}
 
 -- a unit with other statuses and another real id
 unfoldable pub withState : FugueSpan → Status → OptStatus → OptId → FugueSpan
@@ -81,9 +83,6 @@ pieces l at len reversed =
 -- ---------------------------------------------------------------- update
 
 -- what an update does to future
-pub data SetFuture : Type 0 where
-  Keep Now Future : SetFuture
-
 abbrev pub setFuture : SetFuture → Bool → Bool
 setFuture Keep f = f
 setFuture Now f = false

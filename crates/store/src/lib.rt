@@ -1,9 +1,9 @@
-// The span store: spans in rows of 72 bytes of a lent buffer, read, written and inserted.
+// The span store: spans in rows of 72 bytes of a lent buffer, read, written, inserted and removed.
 pub mod header;
 pub mod limits;
 
 ghost use mathlib.Core.Path.{_≡_};
-ghost use Prim.Native.Nat.{_+_, _*_, _≤_, _<_};
+ghost use Prim.Native.Nat.{_+_, _-_, _*_, _≤_, _<_};
 ghost use mathlib.Core.List.{_++_, _∷_};
 ghost use lib.ListN.{length, take, drop};
 ghost use mir.Syntax.{w16, w32};
@@ -311,4 +311,13 @@ pub fn insert_row(s: &mut [u8], n: usize, i: usize, x: FugueSpan)
 {
     words::shift::up(s, i * 72, n * 72 - i * 72, 72);
     put_row(s, i, x)
+}
+
+// The rows of s are n. The k rows from row i on go, and the rows after them move down.
+pub fn remove_rows(s: &mut [u8], n: usize, i: usize, k: usize)
+    requires { ⌜ (n * 72 ≤ length (now s)) × (i + k ≤ n) ⌝ }
+    ensures { λ _. ⌜ rows (n - k) (now (s .exit)) ≡ take i (rows n (now (s .entry))) ++ drop (i + k) (rows n (now (s .entry))) ⌝ }
+{
+    let end = i + k;
+    words::shift::down(s, i * 72, n * 72 - end * 72, k * 72)
 }

@@ -5,3 +5,9 @@ pub const UNITS: usize = 65536;
 
 // The rows of room that count: a longer room counts as that long.
 pub const ROWS: usize = 65536;
+
+// The peers that have edits in a history.
+pub const PEERS: usize = 16;
+
+// The edits of a history.
+pub const EDITS: usize = 2000;
