@@ -1,5 +1,7 @@
 // The calls of a rope, each with its answer. One that the rope does not have yet is answered `error`.
 use crate::reply;
+use rope::delete::DeleteAnswer;
+use script::call::Delete;
 use script::call::Insert;
 use script::call::RopeCall;
 
@@ -23,7 +25,7 @@ fn piece(out: &[u8], i: usize, text: &mut [u8], at: usize) -> usize {
 }
 
 // The n pieces that a delete put out.
-pub fn pieces(out: &[u8], n: usize, text: &mut [u8], start: usize) -> usize {
+fn pieces(out: &[u8], n: usize, text: &mut [u8], start: usize) -> usize {
     let mut at = reply::counted(text, start, b"pieces", n as u64);
     let mut i = 0;
     while i < n {
@@ -33,10 +35,17 @@ pub fn pieces(out: &[u8], n: usize, text: &mut [u8], start: usize) -> usize {
     at
 }
 
+fn delete(x: Delete, s: &mut [u8], out: &mut [u8], text: &mut [u8], at: usize) -> usize {
+    match rope::delete::delete(s, out, x.pos, x.len, x.start, x.reversed) {
+        DeleteAnswer::Done(n) => pieces(out, n, text, at),
+        DeleteAnswer::Refused(code) => reply::refused(text, at, code),
+    }
+}
+
 pub fn call(c: RopeCall, s: &mut [u8], out: &mut [u8], text: &mut [u8], at: usize) -> usize {
     match c {
         RopeCall::Insert(x) => insert(x, s, text, at),
-        RopeCall::Delete(_) => reply::error(text, at),
+        RopeCall::Delete(x) => delete(x, s, out, text, at),
         RopeCall::Update(_) => reply::error(text, at),
         RopeCall::Clear => clear(s, text, at),
         RopeCall::Diff => reply::error(text, at),
