@@ -6,7 +6,7 @@ pub mod stores;
 
 use crate::answer;
 use crate::batch::{self, Difference, Named, Tally};
-use crate::lane::Said;
+use crate::lane::{has, Said};
 use crate::row::{well_formed, Row};
 use crate::simpler;
 use judge::Reading;
@@ -56,10 +56,13 @@ impl Script {
         let mut reading = self.reading();
         let mut out = Vec::new();
         for (i, call) in self.calls.iter().enumerate() {
-            reading.call(call);
-            out.push((i, call.clone()));
+            if has(&answer::line(call)) {
+                reading.call(call);
+                out.push((i, call.clone()));
+            }
             if !self.last_only || i + 1 == self.calls.len() {
-                out.extend(judge::questions(&reading.list, self.last_only).into_iter().map(|q| (i, q)));
+                let questions = judge::questions(&reading.list, self.last_only).into_iter();
+                out.extend(questions.filter(|q| has(&answer::line(q))).map(|q| (i, q)));
             }
         }
         out
@@ -84,13 +87,14 @@ impl batch::Script for Script {
 
     fn calls(&self) -> Vec<String> {
         let needless = if self.limits == AMPLE { 2 } else { 0 };
-        self.before().into_iter().skip(needless).chain(self.calls.iter().map(answer::line)).collect()
+        let calls = self.calls.iter().map(answer::line).filter(|l| has(l));
+        self.before().into_iter().skip(needless).chain(calls).collect()
     }
 
     fn judge(&self, said: &[Said], variants: &[Named], tally: &mut Tally) -> Result<(), Difference> {
         let asked: Vec<Call> = self.asked().into_iter().map(|(_, c)| c).collect();
         tally.scripts += 1;
-        tally.calls += self.calls.len() as u64;
+        tally.calls += asked.iter().filter(|c| judge::changes(c)).count() as u64;
         tally.lines += asked.len() as u64;
         let before = self.before().len();
         let said = said.get(before..).unwrap_or(&[]);

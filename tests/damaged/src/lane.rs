@@ -5,6 +5,12 @@ use std::path::PathBuf;
 use std::process::{Command, Stdio};
 use std::time::{Duration, Instant};
 
+/// Whether a line's call is not among those that `WITHOUT` leaves out, for a program that does not have them yet.
+pub fn has(line: &str) -> bool {
+    let word = line.split(' ').next().unwrap_or("");
+    std::env::var("WITHOUT").map_or(true, |out| !out.split(',').any(|w| w == word))
+}
+
 /// An answer: its first line and the lines that the first line announces.
 pub type Said = Vec<String>;
 

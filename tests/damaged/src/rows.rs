@@ -3,7 +3,7 @@
 //! of the rows (`row.rs`).
 use crate::calls;
 use crate::chance::Random;
-use crate::lane::{Lane, Said};
+use crate::lane::{has, Lane, Said};
 use crate::row::{well_formed, Row, UNKNOWN_PEER};
 use std::collections::BTreeMap;
 
@@ -92,6 +92,7 @@ fn built(seed: u64) -> Store {
     for i in 0..3 + random.below(20) {
         build.push(calls::building(&mut random, i));
     }
+    build.retain(|l| has(l));
     Store { seed, build, room, damage: vec![], rows: vec![], calls: vec![] }
 }
 
@@ -161,6 +162,7 @@ fn harm(store: &mut Store) {
     for _ in 0..12 {
         store.calls.push(calls::any(&mut random));
     }
+    store.calls.retain(|l| has(l));
     store.calls.push("out 64".into());
     store.calls.push("spans".into());
 }
