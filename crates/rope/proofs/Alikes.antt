@@ -99,7 +99,7 @@ module _ (s : FugueSpan) (r : List FugueSpan) (ok : spanCode s ≡ 0) (each : Al
       go false e = refl
 
   -- a span's units before others are joined as the span is
-  join-on : join (unitsOf s ++ r) ≡ joinOn s (join r)
+  pub join-on : join (unitsOf s ++ r) ≡ joinOn s (join r)
   join-on =
       sym (joined-is (joinOn s (join r)) (unitsOf s ++ r) (on-joined (join r) (join-joined r each))
       (on-expand (join r) ∙ ap (λ (u : List FugueSpan). unitsOf s ++ u) (expand-join r each)))
@@ -113,7 +113,7 @@ module _ (s : FugueSpan) (r : List FugueSpan) (ok : spanCode s ≡ 0) (each : Al
       go true = omega arith
       go false = omega arith
 
-list-ok : (l : List FugueSpan) → AllOk l → AllUnits (expand l)
+pub list-ok : (l : List FugueSpan) → AllOk l → AllUnits (expand l)
 unfolding AllOk expand AllUnits
 list-ok [] ok = tt
 list-ok (s ∷ l) ok = units-append (unitsOf s) (expand l) (span-units s (ok .0)) (list-ok l (ok .1))

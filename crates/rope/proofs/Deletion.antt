@@ -226,13 +226,13 @@ module _ (s o : List ℕ) (d : Delete) (reversed : Bool) (st : isState s ≡ tru
 
 -- ---- delete
 
-front-behind : (l : List FugueSpan) (n : ℕ) → front l n ++ behind l n ≡ l
+pub front-behind : (l : List FugueSpan) (n : ℕ) → front l n ++ behind l n ≡ l
 unfolding front behind
 front-behind [] n = refl
 front-behind (v ∷ l) zero = refl
 front-behind (v ∷ l) (suc n) = ap (λ (m : List FugueSpan). v ∷ m) (front-behind l (cond (activated (v .status)) n (suc n)))
 
-empty-units : (at : ℕ) (start : Id) (l : List FugueSpan) → deleteUnits at 0 start l ≡ l
+pub empty-units : (at : ℕ) (start : Id) (l : List FugueSpan) → deleteUnits at 0 start l ≡ l
 unfolding deleteUnits
 empty-units at start l = ap (λ (m : List FugueSpan). front l at ++ m) (first-zero (behind l at) start) ∙ front-behind l at
 
@@ -262,7 +262,7 @@ module _ (s o : List ℕ) (at len : ℕ) (start : Id) (reversed : Bool) where
   unfolding deleteNumber
   number-none e = ap (λ (b : Bool). unless b 15 (deleteCode (room s) (outRows o) (spansOf s) at len start reversed)) e
 
-  number-state : isState s ≡ true → number ≡ deleteCode (room s) (outRows o) (spansOf s) at len start reversed
+  pub number-state : isState s ≡ true → number ≡ deleteCode (room s) (outRows o) (spansOf s) at len start reversed
   unfolding deleteNumber
   number-state e = ap (λ (b : Bool). unless b 15 (deleteCode (room s) (outRows o) (spansOf s) at len start reversed)) e
 

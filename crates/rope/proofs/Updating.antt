@@ -79,7 +79,7 @@ module _ (f : SetFuture) (k : ℤ) where
         content = unitAt s i .content;
       }
 
-  len-updated : (diff : Bool) (s : FugueSpan) → lenSpan (updateUnit f k diff s) ≡ lenSpan s
+  pub len-updated : (diff : Bool) (s : FugueSpan) → lenSpan (updateUnit f k diff s) ≡ lenSpan s
   unfolding updateUnit withState
   len-updated true s = refl
   len-updated false s = refl
@@ -163,7 +163,8 @@ module _ (u : Update) (s : FugueSpan) (ok : spanCode s ≡ 0) where
       (expand-append (changedOf (Ch.Update u) s a b) (partOf s b L) ∙
       ap₂ (λ (x y : List FugueSpan). x ++ y) (update-expand a b m) (part-expand s ok b L (omega arith))))
 
-  three : (a b : ℕ) → a ≤ b → b ≤ L → unitsOf s ≡ tab (unitAt s) 0 a ++ (tab (unitAt s) a (b - a) ++ tab (unitAt s) b (L - b))
+  -- its units in three
+  pub three : (a b : ℕ) → a ≤ b → b ≤ L → unitsOf s ≡ tab (unitAt s) 0 a ++ (tab (unitAt s) a (b - a) ++ tab (unitAt s) b (L - b))
   unfolding unitsOf
   three a b k m =
       ap (tab (unitAt s) 0) (let q : L ≡ a + (b - a + (L - b)) = omega arith in q) ∙
@@ -192,16 +193,48 @@ module _ (u : Update) (s : FugueSpan) (ok : spanCode s ≡ 0) where
   and-false true = refl
   and-false false = refl
 
-  pub span-law : u .from ≤ u .to → expand (piecesOf (Ch.Update u) s) ≡ map g (unitsOf s)
-  span-law order = go (eqb (s .id .peer) (u .peer)) refl
+  -- where the units of the range stand in a span: from a up to b
+  pub record Run (a b : ℕ) : Type 0 where
+    pub low : a ≤ b
+    pub most : b ≤ L
+    pub cut : updateCut u s ≡ part a b
+    pub before : (i : ℕ) → 0 ≤ i → i < 0 + a → inRange (u .peer) (pos (u .from)) (pos (u .to)) (unitAt s i) ≡ false
+    pub within : (i : ℕ) → a ≤ i → i < a + (b - a) → inRange (u .peer) (pos (u .from)) (pos (u .to)) (unitAt s i) ≡ true
+    pub behind : (i : ℕ) → b ≤ i → i < b + (L - b) → inRange (u .peer) (pos (u .from)) (pos (u .to)) (unitAt s i) ≡ false
+
+  run-other : eqb (s .id .peer) (u .peer) ≡ false → Run 0 0
+  run-other e =
+      record {
+        low = omega arith;
+        most = omega arith;
+        cut = cut-other e;
+        before = λ i p q. in-by false e i;
+        within = λ i p q. absurd (omega arith);
+        behind = λ i p q. in-by false e i;
+      }
+
+  run-own : u .from ≤ u .to → eqb (s .id .peer) (u .peer) ≡ true → Run (min (u .from - c) L) (min (u .to - c) L)
+  run-own order e =
+      record {
+        low = omega arith;
+        most = omega arith;
+        cut = cut-own e;
+        before = λ i p q. false-by i true false (ltb (c + i) (u .to)) e (lt-leb (u .from) (c + i) (omega arith)) refl;
+        within = λ i p q. false-by i true true true e (le-leb (u .from) (c + i) (omega arith)) (lt-ltb (c + i) (u .to) (omega arith));
+        behind = λ i p q. false-by i true (leb (u .from) (c + i)) false e refl (le-ltb (c + i) (u .to) (omega arith)) ∙ and-false (leb (u .from) (c + i));
+      }
+
+  pub run-of : u .from ≤ u .to → Run (updateCut u s .from) (updateCut u s .to)
+  run-of order = go (eqb (s .id .peer) (u .peer)) refl
     where
-      go : (t : Bool) → eqb (s .id .peer) (u .peer) ≡ t → expand (piecesOf (Ch.Update u) s) ≡ map g (unitsOf s)
-      go false e = range-law 0 0 (omega arith) (omega arith) (cut-other e) (λ i p q. in-by false e i) (λ i p q. absurd (omega arith)) (λ i p q. in-by false e i)
-      go true e =
-          range-law (min (u .from - c) L) (min (u .to - c) L) (omega arith) (omega arith) (cut-own e)
-          (λ i p q. false-by i true false (ltb (c + i) (u .to)) e (lt-leb (u .from) (c + i) (omega arith)) refl)
-          (λ i p q. false-by i true true true e (le-leb (u .from) (c + i) (omega arith)) (lt-ltb (c + i) (u .to) (omega arith)))
-          (λ i p q. false-by i true (leb (u .from) (c + i)) false e refl (le-ltb (c + i) (u .to) (omega arith)) ∙ and-false (leb (u .from) (c + i)))
+      go : (t : Bool) → eqb (s .id .peer) (u .peer) ≡ t → Run (updateCut u s .from) (updateCut u s .to)
+      go false e = subst (λ (p : Part). Run (p .from) (p .to)) (sym (cut-other e)) (run-other e)
+      go true e = subst (λ (p : Part). Run (p .from) (p .to)) (sym (cut-own e)) (run-own order e)
+
+  pub span-law : u .from ≤ u .to → expand (piecesOf (Ch.Update u) s) ≡ map g (unitsOf s)
+  span-law order =
+      let r = run-of order in
+      range-law (updateCut u s .from) (updateCut u s .to) (r .low) (r .most) (r .cut) (r .before) (r .within) (r .behind)
 
   -- ---- the counts
 

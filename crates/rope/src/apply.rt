@@ -14,7 +14,8 @@ use crate::change::Change;
 use crate::stream::push;
 use span::span::FugueSpan;
 
-// The units from..to of a row are pushed on to the m rows of q, if there are any. The answer is the number of these rows.
+// The units from..to of a row are pushed on to the m rows of q, if there are any. The answer is the number of these rows. (The row is one
+// of a well formed list, which the entries asked; the queue has room, as at most three rows wait.)
 pub fn push_part(q: &mut [u8], m: usize, row: FugueSpan, from: u32, to: u32) -> usize
     requires { ⌜ Waiting m (now q) × (m * 72 + 72 ≤ length (now q)) × (spanCode row ≡ 0) × (to ≤ lenSpan row) ⌝ }
     ensures { λ k. ⌜ Grown m (partOf row from to) k (now (q .entry)) (now (q .exit)) ⌝ }
@@ -26,7 +27,7 @@ pub fn push_part(q: &mut [u8], m: usize, row: FugueSpan, from: u32, to: u32) -> 
     }
 }
 
-// The same of units that change.
+// The same of units that change, which the change can be made in: the entries asked.
 pub fn push_changed(q: &mut [u8], m: usize, e: Change, row: FugueSpan, from: u32, to: u32) -> usize
     requires { ⌜ Waiting m (now q) × (m * 72 + 72 ≤ length (now q)) × (spanCode row ≡ 0) × (to ≤ lenSpan row) × (from < to → CanChange e (partSpan row from to) × (spanCode (changeSpan e (partSpan row from to)) ≡ 0)) ⌝ }
     ensures { λ k. ⌜ Grown m (changedOf e row from to) k (now (q .entry)) (now (q .exit)) ⌝ }
@@ -38,7 +39,7 @@ pub fn push_changed(q: &mut [u8], m: usize, e: Change, row: FugueSpan, from: u32
     }
 }
 
-// The pieces of a row.
+// The pieces of a row of a well formed list, which the entries asked, where three more rows can wait.
 pub fn push_row(q: &mut [u8], m: usize, e: Change, row: FugueSpan) -> usize
     requires { ⌜ Waiting m (now q) × (m * 72 + 216 ≤ length (now q)) × Fit e row ⌝ }
     ensures { λ k. ⌜ Grown m (piecesOf e row) k (now (q .entry)) (now (q .exit)) ⌝ }
@@ -49,7 +50,7 @@ pub fn push_row(q: &mut [u8], m: usize, e: Change, row: FugueSpan) -> usize
     push_part(q, b, row, part.to, row.rle_len())
 }
 
-// The first of the m rows of q goes to row w, if it is not the last. The answer is how many went.
+// The first of the m rows of q goes to row w, if it is not the last. The answer is how many went. (Row w has been read.)
 pub fn move_first(s: &mut [u8], w: usize, q: &mut [u8], m: usize) -> usize
     requires { ⌜ (w * 72 + 72 ≤ length (now s)) × (m * 72 ≤ length (now q)) ⌝ }
     ensures { λ k. ⌜ Moved w m k (now (s .entry)) (now (q .entry)) (now (s .exit)) (now (q .exit)) ⌝ }
@@ -63,7 +64,7 @@ pub fn move_first(s: &mut [u8], w: usize, q: &mut [u8], m: usize) -> usize
     }
 }
 
-// The m rows of q go after the first w rows.
+// The m rows of q go after the first w rows, where the entries asked for room.
 pub fn move_all(s: &mut [u8], w: usize, q: &[u8], m: usize)
     requires { ⌜ ((w + m) * 72 ≤ length (now s)) × (m * 72 ≤ length (now q)) ⌝ }
     ensures { λ _. ⌜ rows (w + m) (now (s .exit)) ≡ rows w (now (s .entry)) ++ rows m (now (q .entry)) ⌝ }
@@ -75,7 +76,8 @@ pub fn move_all(s: &mut [u8], w: usize, q: &[u8], m: usize)
     }
 }
 
-// The change goes through n rows, with a queue of six rows. The answer is the number of rows that they become.
+// The change goes through n rows, with a queue of six rows. The answer is the number of rows that they become. (They are a well formed list
+// that the change can be made in, with room for what it becomes: the entries asked.)
 pub fn apply_with(s: &mut [u8], q: &mut [u8], n: usize, e: Change) -> usize
     requires { ⌜ Applies e n (now s) × (432 ≤ length (now q)) ⌝ }
     ensures { λ k. ⌜ rows k (now (s .exit)) ≡ join (expand (allPieces e (rows n (now (s .entry))))) ⌝ }
@@ -97,6 +99,7 @@ pub fn apply_with(s: &mut [u8], q: &mut [u8], n: usize, e: Change) -> usize
     w + m
 }
 
+// The same, with a queue of its own.
 pub fn apply(s: &mut [u8], n: usize, e: Change) -> usize
     requires { ⌜ Applies e n (now s) ⌝ }
     ensures { λ k. ⌜ rows k (now (s .exit)) ≡ join (expand (allPieces e (rows n (now (s .entry))))) ⌝ }
@@ -105,7 +108,7 @@ pub fn apply(s: &mut [u8], n: usize, e: Change) -> usize
     apply_with(s, &mut q, n, e)
 }
 
-// All but the last of the m rows of q go. The answer is how many went.
+// All but the last of the m rows that wait in q go. The answer is how many went.
 pub fn keep_last(q: &mut [u8], m: usize) -> usize
     requires { ⌜ m * 72 ≤ length (now q) ⌝ }
     ensures { λ k. ⌜ Kept m k (now (q .entry)) (now (q .exit)) ⌝ }
@@ -118,7 +121,8 @@ pub fn keep_last(q: &mut [u8], m: usize) -> usize
     }
 }
 
-// How many rows the change would leave, with a queue of six rows (refusal 10). Nothing is written but the queue.
+// How many rows the change would leave, with a queue of six rows (refusal 10), in a well formed list that it can be made in, which the
+// entries asked. Nothing is written but the queue.
 pub fn count_with(s: &[u8], q: &mut [u8], n: usize, e: Change) -> usize
     requires { ⌜ Counts e n (now s) × (432 ≤ length (now q)) ⌝ }
     ensures { λ k. ⌜ k ≡ length (join (expand (allPieces e (rows n (now (s .entry)))))) ⌝ }
@@ -139,6 +143,7 @@ pub fn count_with(s: &[u8], q: &mut [u8], n: usize, e: Change) -> usize
     gone + m
 }
 
+// The same, with a queue of its own.
 pub fn count(s: &[u8], n: usize, e: Change) -> usize
     requires { ⌜ Counts e n (now s) ⌝ }
     ensures { λ k. ⌜ k ≡ length (join (expand (allPieces e (rows n (now (s .entry)))))) ⌝ }

@@ -152,7 +152,7 @@ pub fn next_entry(s: &[u8], n: usize, from: usize, since: u32) -> Step
 }
 
 // Whether the delta has a real id for all that comes in.
-fn all_real(s: &[u8], n: usize) -> bool
+pub fn all_real(s: &[u8], n: usize) -> bool
     requires { ⌜ Stored n (now s) ⌝ }
     ensures { λ r. ⌜ r ≡ every insertable (rows n (now (s .entry))) ⌝ }
 {
@@ -167,7 +167,7 @@ fn all_real(s: &[u8], n: usize) -> bool
 }
 
 // How many entries the delta has.
-fn count_entries(s: &[u8], n: usize) -> usize
+pub fn count_entries(s: &[u8], n: usize) -> usize
     requires { ⌜ Stored n (now s) ⌝ }
     ensures { λ r. ⌜ r ≡ length (entries (rows n (now (s .entry)))) ⌝ }
 {

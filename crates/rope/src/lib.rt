@@ -8,6 +8,7 @@ pub mod clear;
 pub mod delete;
 pub mod diff;
 pub mod edit;
+pub mod exact;
 pub mod find;
 pub mod insert;
 pub mod order;
