@@ -1,11 +1,11 @@
 -- Each delta, applied to the old visible list, gives the new one: the law, on the definitions. Assumes nothing.
-use Prim.Native.Nat.{ℕ, zero, suc, _+_, _≤_}
+use Prim.Native.Nat.{ℕ, zero, suc, _+_}
 use mathlib.Core.Path.{_≡_, refl, sym, ap, ap₂, _∙_}
 use mathlib.Core.Bool.{Bool, true, false, cond}
 use mathlib.Core.List.{List, [], _∷_, _++_, map, append-assoc}
 use native.Mathlib.Omega.{arith}
 use lib.Dec.{eqb}
-use lib.ListN.{length, take, drop, length-append}
+use lib.ListN.{length, length-append}
 use lib.Seq.{take-at, drop-at}
 use borrow.Author.Tests.{eqb-true}
 use Rattle.span.specs.declared.chunk.RichtextChunk.{RichtextChunk}
@@ -26,7 +26,7 @@ use Rattle.rope.specs.Lists.{keepIf}
 use Rattle.rope.specs.Change.{withState}
 use Rattle.rope.specs.Query.{visibles}
 use Rattle.rope.specs.declared.diff.Entry.{Entry}
-use Rattle.rope.specs.declared.diff.Entry.the-variants.{Retain, Delete, Insert}
+use Rattle.rope.specs.declared.diff.Entry.the-variants.{Retain, Delete}
 use Rattle.rope.specs.Delta.{insertOfSpan, retain, entryBy, entriesFrom, entries}
 use Rattle.rope.proofs.Reals.{real-part}
 use Rattle.apply.specs.declared.item.Item.{Item}
@@ -73,14 +73,14 @@ map-tab g f i zero = refl
 map-tab g f i (suc n) = ap (λ (l : List FugueSpan). g (f i) ∷ l) (map-tab g f (suc i) n)
 
 -- the units of s as items, where they are visible
-abbrev shownIf : FugueSpan → Bool → List Item
+abbrev pub shownIf : FugueSpan → Bool → List Item
 shownIf s t = cond t (itemsOf (s .content) (realOf s)) []
 
-unit-item : (s : FugueSpan) (k : ℕ) → itemOf (unitAt s k) ≡ itemAt (s .content) (realOf s) k
+pub unit-item : (s : FugueSpan) (k : ℕ) → itemOf (unitAt s k) ≡ itemAt (s .content) (realOf s) k
 unfolding itemOf itemAt shift
 unit-item s k = ap (λ (i : Id). record { id = i; content = unitAt s k .content }) (real-part s k (suc k))
 
-new-item : (u : FugueSpan) → itemOf (newUnit u) ≡ itemOf u
+pub new-item : (u : FugueSpan) → itemOf (newUnit u) ≡ itemOf u
 unfolding itemOf newUnit withState realOf
 new-item u = refl
 
@@ -112,12 +112,12 @@ items-new s =
 
 -- ---- what a span does: it stays as it is, comes into view, or goes out of it
 
-data Turn (s : FugueSpan) : Type 0 where
+pub data Turn (s : FugueSpan) : Type 0 where
   stays : (t : Bool) → diffOf s ≡ NotChanged → activated (s .status) ≡ t → activeInDiff s ≡ t → Turn s
   comes : diffOf s ≡ Created → activated (s .status) ≡ false → activeInDiff s ≡ true → Turn s
   goes : diffOf s ≡ Deleted → activated (s .status) ≡ true → activeInDiff s ≡ false → Turn s
 
-turn : (s : FugueSpan) → Turn s
+pub turn : (s : FugueSpan) → Turn s
 unfolding diffOf activeInDiff
 turn s = go (s .«diff_status») refl
   where
@@ -158,7 +158,7 @@ pub items-length : (c : RichtextChunk) (x : Id) → length (itemsOf c x) ≡ len
 unfolding itemsOf
 items-length c x = tab-length (itemAt c x) 0 (lenOf c)
 
-shown-length : (s : FugueSpan) (t : Bool) → activated (s .status) ≡ t → length (shownIf s t) ≡ activeLen s
+pub shown-length : (s : FugueSpan) (t : Bool) → activated (s .status) ≡ t → length (shownIf s t) ≡ activeLen s
 unfolding activeLen
 shown-length s true e = items-length (s .content) (realOf s) ∙ sym (ap (λ (b : Bool). cond b (lenSpan s) 0) e)
 shown-length s false e = sym (ap (λ (b : Bool). cond b (lenSpan s) 0) e)
@@ -174,7 +174,7 @@ module _ (s : FugueSpan) (l : List FugueSpan) where
       ap items (map-append newUnit (unitsOf s) (expand l))
       ∙ (items-append (map newUnit (unitsOf s)) (map newUnit (expand l)) ∙ ap (λ (k : List Item). k ++ items (map newUnit (expand l))) (items-new s ∙ ap (shownIf s) e))
 
-  entries-by : (gap : ℕ) (d : DiffStatus) → diffOf s ≡ d → entriesFrom (s ∷ l) gap ≡ entryBy d gap s (entriesFrom l (gap + activeLen s)) (entriesFrom l 0)
+  pub entries-by : (gap : ℕ) (d : DiffStatus) → diffOf s ≡ d → entriesFrom (s ∷ l) gap ≡ entryBy d gap s (entriesFrom l (gap + activeLen s)) (entriesFrom l 0)
   unfolding entriesFrom
   entries-by gap d e = ap (λ (x : DiffStatus). entryBy x gap s (entriesFrom l (gap + activeLen s)) (entriesFrom l 0)) e
 
@@ -224,7 +224,7 @@ abbrev pub standing : (FugueSpan → Status) → FugueSpan → FugueSpan
 standing f u = withState u (f u) Opt.Nothing (u .«real_id»)
 
 module _ (a b : FugueSpan → Status) where
-  old-same : (l : List FugueSpan) → items (map (between a b) l) ≡ items (map (standing a) l)
+  pub old-same : (l : List FugueSpan) → items (map (between a b) l) ≡ items (map (standing a) l)
   unfolding items visibles keepIf
   old-same [] = refl
   old-same (u ∷ l) = go (old-same l) (activated (a u)) refl
@@ -241,7 +241,7 @@ module _ (a b : FugueSpan → Status) where
           items-cons (between a b u) (map (between a b) l) false (shown ∙ e)
           ∙ (on ∙ sym (items-cons (standing a u) (map (standing a) l) false (ap activated (with-status u (a u) Opt.Nothing (u .«real_id»)) ∙ e)))
 
-  new-same : (l : List FugueSpan) → map newUnit (map (between a b) l) ≡ map (standing b) l
+  pub new-same : (l : List FugueSpan) → map newUnit (map (between a b) l) ≡ map (standing b) l
   unfolding newUnit withState
   new-same [] = refl
   new-same (u ∷ l) = ap (λ (m : List FugueSpan). standing b u ∷ m) (new-same l)

@@ -1,22 +1,22 @@
 -- What the entries use and give, one after the other.
-use Prim.Native.Nat.{ℕ, zero, suc, _+_, _-_, _<_, _≤_, min}
+use Prim.Native.Nat.{ℕ, _+_, _-_, _<_, _≤_}
 use mathlib.Core.Path.{_≡_, refl, sym, ap, ap₂, _∙_}
-use mathlib.Core.Bool.{Bool, true, false}
+use mathlib.Core.Bool.{true, false}
 use mathlib.Core.List.{List, [], _∷_, _++_}
 use native.Mathlib.Omega.{arith}
 use native.Mathlib.Nat.{zero-add}
 use lib.Dec.{leb}
-use lib.ListN.{length, take, drop, length-append, length-drop}
+use lib.ListN.{length, drop, length-append, length-drop}
 use lib.Seq.{length-take-le}
 use borrow.Author.Tests.{le-leb, lt-leb}
 use Rattle.span.specs.Units.{tab}
 use Rattle.span.proofs.ChunkLaws.{leb-iff}
 use Rattle.rope.specs.declared.diff.Entry.the-variants.{Retain, Delete, Insert}
 use Rattle.apply.specs.declared.item.Item.{Item}
-use Rattle.apply.specs.Apply.{Given, Known, Strange, itemsOf, applied, used}
+use Rattle.apply.specs.Apply.{Given, Known, Strange, applied, used}
 use Rattle.apply.specs.Given.{takes, gives, made, newLen}
 use Rattle.apply.proofs.DeltaApplies.{items-length}
-use Rattle.apply.proofs.Tabs.{tab-turn, tab-none}
+use Rattle.apply.proofs.Tabs.{tab-turn, tab-none, tab-all}
 
 pub used-cons : (g : Given) (es : List Given) → used (g ∷ es) ≡ takes g + used es
 unfolding used takes
@@ -50,6 +50,16 @@ length-applied (g ∷ es) old h =
     ∙ ap₂ _+_ (length-made g old (omega (arith, u))) (length-applied es (drop (takes g) old) (omega (arith, u, d)) ∙ ap (newLen es) d))
 
 -- ---- loops: those from i on are left
+
+module _ (f : ℕ → Given) (n : ℕ) where
+  pub used-start : (left : ℕ) → leb (used (tab f 0 n)) left ≡ leb (used (tab f 0 (n - 0))) left
+  used-start left = ap (λ (l : List Given). leb (used l) left) (tab-all f n)
+
+  pub left-start : (left : ℕ) → used (tab f 0 n) ≤ left → used (tab f 0 (n - 0)) ≤ left
+  left-start left h = rw (sym (tab-all f n)) h
+
+  pub new-start : (left free : ℕ) → leb (newLen (tab f 0 n) left) free ≡ leb (newLen (tab f 0 (n - 0)) left) free
+  new-start left free = ap (λ (l : List Given). leb (newLen l left) free) (tab-all f n)
 
 module _ (f : ℕ → Given) (n i : ℕ) where
   used-on : i < n → used (tab f i (n - i)) ≡ takes (f i) + used (tab f (i + 1) (n - (i + 1)))

@@ -1,23 +1,21 @@
 -- A delta with like neighbours joined is applied to the same effect. Assumes nothing.
-use Prim.Native.Nat.{ℕ, zero, suc, _+_}
+use Prim.Native.Nat.{ℕ, suc, _+_}
 use mathlib.Core.Path.{_≡_, refl, sym, ap, ap₂, _∙_}
-use mathlib.Core.Bool.{Bool, true, false, _&&_, cond, true≢false, false≢true}
+use mathlib.Core.Bool.{Bool, true, false, _&&_, cond, false≢true}
 use mathlib.Core.List.{List, [], _∷_, _++_, map, append-assoc}
 use native.Mathlib.Nat.{zero-add, add-suc}
 use lib.ListN.{take, drop}
 use lib.Seq.{take-add, drop-drop}
 use Rattle.span.specs.declared.chunk.RichtextChunk.{RichtextChunk}
 use Rattle.span.specs.declared.ids.Id.{Id}
-use Rattle.span.specs.Chunk.{lenOf, formed, joins, mergedChunk, partChunk}
+use Rattle.span.specs.Chunk.{lenOf, formed, joins, mergedChunk}
 use Rattle.span.specs.Ids.{incId, sameId}
-use Rattle.span.specs.Units.{tab}
 use Rattle.span.proofs.IdsLaws.{inc-inc}
 use Rattle.span.proofs.Same.{sameId-true}
 use Rattle.span.proofs.ListLaws.{tab-from, tab-add}
 use Rattle.span.proofs.Views.{JoinView, join-view}
 use Rattle.span.proofs.JoinLaws.{merged-len, merged-left, merged-right, merged-formed}
 use Rattle.rope.specs.Lists.{every}
-use Rattle.rope.specs.declared.diff.OptLamport.{OptLamport}
 use Rattle.rope.specs.declared.diff.Entry.{Entry}
 use Rattle.rope.specs.declared.diff.Entry.the-variants.{Retain, Delete, Insert}
 use Rattle.rope.specs.Delta.{lamportsRun, like, sizeOf, mergedEntry, joinEntry, joinEntries}

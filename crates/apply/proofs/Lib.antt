@@ -3,3 +3,11 @@ pub mod JoinApplies
 pub mod Tabs
 pub mod Lows
 pub mod Fits
+pub mod Said
+pub mod Coded
+pub mod Written
+pub mod Shown
+pub mod Sound
+pub mod Back
+pub mod Fine
+pub mod Composed

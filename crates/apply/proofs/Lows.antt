@@ -1,23 +1,27 @@
 -- The lowest refusal over the whole input.
-use Prim.Native.Nat.{ℕ, zero, suc, _+_, _-_, _<_, _≤_, min}
+use Prim.Native.Nat.{ℕ, _+_, _-_, _<_, _≤_, min}
 use mathlib.Core.Path.{_≡_, refl, sym, ap, ap₂, _∙_}
-use mathlib.Core.Bool.{Bool, true, false, _&&_, cond}
+use mathlib.Core.Bool.{Bool, true, false, not, _&&_, cond}
 use mathlib.Core.List.{List, [], _∷_}
 use native.Mathlib.Omega.{arith}
 use lib.Dec.{eqb, leb}
 use lib.ListN.{length}
+use borrow.Author.Tests.{eq-eqb, ne-eqb}
 use Rattle.span.specs.declared.chunk.RichtextChunk.{RichtextChunk}
 use Rattle.span.specs.declared.ids.Id.{Id}
 use Rattle.span.specs.declared.ids.OptId.the-variants as OptI
 use Rattle.span.specs.Answer.{lower}
+use Rattle.span.proofs.AnswerLaws.{lower-by}
 use Rattle.span.specs.Chunk.{lenOf, formed}
 use Rattle.span.specs.Ids.{roomOf, roomOpt}
 use Rattle.span.specs.Units.{tab}
 use Rattle.rope.specs.declared.diff.OptLamport.{OptLamport}
+use Rattle.rope.specs.declared.diff.Entry.the-variants.{Retain, Delete, Insert}
 use Rattle.rope.specs.Lists.{every}
+use Rattle.rope.specs.Columns.{Hold}
 use Rattle.apply.specs.declared.item.Item.{Item}
-use Rattle.apply.specs.Apply.{Given, lamportFits, itemFormed, itemIds, itemSingle, entryFormed, entryIds, entryKnown, used, applied, applyCode}
-use Rattle.apply.specs.Given.{givenCode, insertCode, itemCode, lowest}
+use Rattle.apply.specs.Apply.{Given, Known, lamportFits, itemFormed, itemIds, itemSingle, entryFormed, entryIds, entryKnown, used, applied, applyCode}
+use Rattle.apply.specs.Given.{givenCode, insertCode, lenCode, itemCode, lowest}
 use Rattle.apply.proofs.Tabs.{tab-turn}
 
 -- 1, 2 or 14 by three tests
@@ -109,3 +113,50 @@ item-by x f r s p q e = rw (p, q, e)
 pub insert-by : (c : RichtextChunk) (i : Id) (l : OptLamport) (f r s : Bool) → formed c ≡ f → roomOpt (OptI.At i) (lenOf c) ≡ r → lamportFits l (lenOf c) ≡ s → cond f (cond (r && s) 0 2) 1 ≡ insertCode c i l
 unfolding insertCode
 insert-by c i l f r s p q e = rw (p, q, e)
+
+-- a Retain or Delete of length n, and an Insert
+not-code : (t : Bool) → _≡_ {A = ℕ} (cond t 14 0) (cond (not t) 0 14)
+not-code true = refl
+not-code false = refl
+
+pub code-retain : (n : ℕ) → lenCode n ≡ givenCode (Known (Retain n))
+unfolding givenCode entryFormed entryIds entryKnown
+code-retain n = not-code (eqb n 0)
+
+pub code-delete : (n : ℕ) → lenCode n ≡ givenCode (Known (Delete n))
+unfolding givenCode entryFormed entryIds entryKnown
+code-delete n = not-code (eqb n 0)
+
+pub code-insert : (c : RichtextChunk) (i : Id) (l : OptLamport) → insertCode c i l ≡ givenCode (Known (Insert c i l))
+unfolding givenCode insertCode entryFormed entryIds entryKnown
+code-insert c i l = refl
+
+-- ---- the lower of two
+
+module _ (x y : ℕ) where
+  pub lower-first : x ≡ 0 → y ≡ lower x y
+  lower-first z = lower-by x y true _ (eq-eqb x 0 z) refl
+
+  module _ (z : x ≡ 0 → ⊥) where
+    pub lower-left : y ≡ 0 → x ≡ lower x y
+    lower-left o = lower-by x y false true (ne-eqb x 0 z) (eq-eqb y 0 o)
+
+    module _ (o : y ≡ 0 → ⊥) where
+      pub lower-less : x < y → x ≡ lower x y
+      lower-less h = (let e : x ≡ min x y = omega arith in e) ∙ lower-by x y false false (ne-eqb x 0 z) (ne-eqb y 0 o)
+
+      pub lower-more : y ≤ x → y ≡ lower x y
+      lower-more h = (let e : y ≡ min x y = omega arith in e) ∙ lower-by x y false false (ne-eqb x 0 z) (ne-eqb y 0 o)
+
+-- ---- places within the columns
+
+pub hold-at : (n i : ℕ) (k a b p c l : List ℕ) → i < n → Hold n k a b p c l → Hold (i + 1) k a b p c l
+hold-at n i k a b p c l h v =
+    record {
+      kind = omega (arith, v .kind);
+      first = omega (arith, v .first);
+      second = omega (arith, v .second);
+      peer = omega (arith, v .peer);
+      counter = omega (arith, v .counter);
+      lamport = omega (arith, v .lamport);
+    }

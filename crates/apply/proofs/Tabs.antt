@@ -157,3 +157,7 @@ unit-zero x j =
 pub units-items : (x : FugueSpan) (len : ℕ) → len ≡ lenSpan x → tab (λ (i : ℕ). itemOf (unitAt x i)) 0 len ≡ map itemOf (unitsOf x)
 unfolding unitsOf
 units-items x len e = ap (tab (λ (i : ℕ). itemOf (unitAt x i)) 0) e ∙ sym (items-units x 0 (lenSpan x))
+
+-- all of a tabulated list are left at the start
+pub tab-all : {A : Type 0} (f : ℕ → A) (n : ℕ) → tab f 0 n ≡ tab f 0 (n - 0)
+tab-all f n = ap (tab f 0) (let e : n ≡ n - 0 = omega arith in e)

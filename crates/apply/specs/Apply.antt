@@ -19,7 +19,6 @@ use Rattle.span.specs.Units.{tab}
 use Rattle.rope.specs.Lists.{every, over}
 use Rattle.rope.specs.declared.diff.OptLamport.{OptLamport}
 use Rattle.rope.specs.declared.diff.OptLamport.the-variants.{Nothing, At}
-use Rattle.rope.specs.declared.diff.Entry.{Entry}
 use Rattle.rope.specs.declared.diff.Entry.the-variants.{Retain, Delete, Insert}
 use Rattle.rope.specs.Query.{visibles}
 use Rattle.rope.specs.Codes.{unless, kept}

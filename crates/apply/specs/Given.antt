@@ -1,7 +1,7 @@
 -- Entries as columns of numbers say them: what each uses, gives and is refused for. Assumes nothing.
-use Prim.Native.Nat.{ℕ, zero, suc, _+_, _-_}
-use mathlib.Core.Bool.{Bool, _&&_, cond}
-use mathlib.Core.List.{List, [], _∷_, _++_}
+use Prim.Native.Nat.{ℕ, _+_, _-_}
+use mathlib.Core.Bool.{_&&_, cond}
+use mathlib.Core.List.{List, [], _∷_}
 use lib.Dec.{eqb, ltb}
 use lib.ListN.{length, getD, take}
 use Rattle.span.specs.declared.chunk.RichtextChunk.{RichtextChunk}
@@ -18,7 +18,6 @@ use Rattle.store.specs.Row.{idOf}
 use Rattle.rope.specs.declared.diff.EntryNumbers.{EntryNumbers}
 use Rattle.rope.specs.declared.diff.OptLamport.{OptLamport}
 use Rattle.rope.specs.declared.diff.OptLamport.the-variants.{Nothing, At}
-use Rattle.rope.specs.declared.diff.Entry.{Entry}
 use Rattle.rope.specs.declared.diff.Entry.the-variants.{Retain, Delete, Insert}
 use Rattle.rope.specs.Codes.{unless}
 use Rattle.rope.specs.Columns.{numbers, least}
@@ -86,6 +85,10 @@ newLen (g ∷ es) m = gives g + newLen es (m - takes g)
 -- what refuses an entry: 1, 2, 14, the lowest
 unfoldable pub insertCode : RichtextChunk → Id → OptLamport → ℕ
 insertCode c i l = unless (formed c) 1 (unless (roomOpt (OptI.At i) (lenOf c) && lamportFits l (lenOf c)) 2 0)
+
+-- 14 of a length 0
+abbrev pub lenCode : ℕ → ℕ
+lenCode n = cond (eqb n 0) 14 0
 
 unfoldable pub givenCode : Given → ℕ
 givenCode g = unless (entryFormed g) 1 (unless (entryIds g) 2 (unless (entryKnown g) 14 0))

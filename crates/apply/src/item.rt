@@ -1,7 +1,7 @@
 // Items: a unit as the applier sees it, in rows of 24 lent bytes. 0 peer (u64), 8 counter by its bits, 12 and 16 the chunk's start and end (u32);
 // the last four are written 0 and never read.
 ghost use mathlib.Core.Path.{_≡_};
-ghost use Prim.Native.Nat.{_+_, _-_, _*_, _/_, _≤_};
+ghost use Prim.Native.Nat.{_+_, _-_, _*_, _≤_};
 ghost use mathlib.Core.List.{map};
 ghost use lib.ListN.{length, take, drop};
 ghost use Rattle.words.specs.Le.{put};
@@ -19,6 +19,7 @@ pub struct Item {
     pub content: RichtextChunk,
 }
 
+// The item in row i. Loops over the rows that fit call it.
 pub fn get_item(s: &[u8], i: usize) -> Item
     requires { ⌜ i * 24 + 24 ≤ length (now s) ⌝ }
     ensures { λ r. ⌜ r ≡ itemIn (now (s .entry)) i ⌝ }
@@ -38,6 +39,7 @@ pub fn get_item(s: &[u8], i: usize) -> Item
     }
 }
 
+// An item in row i. The room is asked before the first write.
 pub fn put_item(s: &mut [u8], i: usize, x: Item)
     requires { ⌜ i * 24 + 24 ≤ length (now s) ⌝ }
     ensures { λ _. ⌜ now (s .exit) ≡ put (i * 24) (itemBytes x) (now (s .entry)) ⌝ }
@@ -60,7 +62,7 @@ pub fn item_of(unit: FugueSpan) -> Item
     }
 }
 
-// The units of a span, from row k of the output on.
+// The units of a span, from row k of the output on. Callers have checked the span and the room.
 pub fn put_units(out: &mut [u8], k: usize, x: FugueSpan)
     requires { ⌜ (spanCode x ≡ 0) × ((k + lenSpan x) * 24 ≤ length (now out)) ⌝ }
     ensures { λ _. ⌜ now (out .exit) ≡ put (k * 24) (itemsBytes (map itemOf (unitsOf x))) (now (out .entry)) ⌝ }
@@ -74,7 +76,7 @@ pub fn put_units(out: &mut [u8], k: usize, x: FugueSpan)
     }
 }
 
-// The n items from row `at` of old on, from row k of the output on.
+// The n items from row `at` of old on, from row k of the output on. Callers have counted both.
 pub fn copy_items(old: &[u8], at: usize, out: &mut [u8], k: usize, n: usize)
     requires { ⌜ ((at + n) * 24 ≤ length (now old)) × ((k + n) * 24 ≤ length (now out)) ⌝ }
     ensures { λ _. ⌜ now (out .exit) ≡ put (k * 24) (itemsBytes (take n (drop at (itemsIn (now (old .entry)))))) (now (out .entry)) ⌝ }
