@@ -1,0 +1,4 @@
+pub mod Starts
+pub mod Stands
+pub mod Columned
+mod Tests
