@@ -27,3 +27,11 @@ pub mod Shorter
 pub mod Rooms
 pub mod Reached
 pub mod Histories
+pub mod Pairs
+pub mod Sound
+pub mod Likes
+pub mod Arriving
+pub mod StaysValid
+pub mod Named
+pub mod ArriveValid
+pub mod Runs

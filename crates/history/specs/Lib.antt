@@ -7,6 +7,7 @@ pub mod Deltas
 pub mod Apply
 pub mod Valid
 pub mod Codes
+pub mod Run
 pub mod Open
 pub mod Script
 pub mod Rows
