@@ -1,9 +1,12 @@
-// The calls of a rope, each with its answer. One that the rope does not have yet is answered `error`.
+// The calls of a rope, each with its answer.
+use crate::entries;
 use crate::reply;
 use rope::delete::DeleteAnswer;
 use script::call::Delete;
 use script::call::Insert;
 use script::call::RopeCall;
+use script::call::SetFuture;
+use script::call::Update;
 
 fn insert(x: Insert, s: &mut [u8], text: &mut [u8], at: usize) -> usize {
     let code = rope::edit::insert(s, x.pos, x.id, x.lamport, x.content);
@@ -42,12 +45,34 @@ fn delete(x: Delete, s: &mut [u8], out: &mut [u8], text: &mut [u8], at: usize) -
     }
 }
 
+fn future(set: SetFuture) -> rope::change::SetFuture {
+    match set {
+        SetFuture::Keep => rope::change::SetFuture::Keep,
+        SetFuture::Now => rope::change::SetFuture::Now,
+        SetFuture::Future => rope::change::SetFuture::Future,
+    }
+}
+
+fn update(x: Update, s: &mut [u8], text: &mut [u8], at: usize) -> usize {
+    let set = x.future;
+    let code = rope::update::update(
+        s,
+        x.from.peer,
+        x.from.counter,
+        x.to.counter,
+        future(set),
+        x.change,
+        x.on_diff,
+    );
+    reply::done(text, at, code)
+}
+
 pub fn call(c: RopeCall, s: &mut [u8], out: &mut [u8], text: &mut [u8], at: usize) -> usize {
     match c {
         RopeCall::Insert(x) => insert(x, s, text, at),
         RopeCall::Delete(x) => delete(x, s, out, text, at),
-        RopeCall::Update(_) => reply::error(text, at),
+        RopeCall::Update(x) => update(x, s, text, at),
         RopeCall::Clear => clear(s, text, at),
-        RopeCall::Diff => reply::error(text, at),
+        RopeCall::Diff => entries::diff(s, out.len() / 72, text, at),
     }
 }

@@ -1,9 +1,11 @@
 // A session of the lane program: the calls of a script answered one after the other (docs/SCRIPT.md), over a rope in bytes that are lent here.
 //
-// `input` cuts what is read into lines, `answer` finds the call that a line says and who answers it, `calls` holds the calls of a rope, `look` what only
-// reads or repairs the rows, `reply` the words of an answer. Each call of a library is one function: a new one is added to `answer` and to its file.
+// `input` cuts what is read into lines, `answer` finds the call that a line says and who answers it, `calls` holds the calls of a rope, `entries` its delta,
+// `look` what only reads or repairs the rows, `reply` the words of an answer. Each call of a library is one function: a new one is added to `answer` and
+// to its file.
 pub mod answer;
 pub mod calls;
+pub mod entries;
 pub mod input;
 pub mod look;
 pub mod reply;
@@ -15,7 +17,7 @@ pub fn run(fd: i32) {
     with_store(fd, &mut store)
 }
 
-// Pieces and entries are put out into rows of the same width.
+// Pieces are put out into rows of the same width.
 fn with_store(fd: i32, store: &mut [u8]) {
     let mut out = [0u8; 589824];
     with_out(fd, store, &mut out)
