@@ -2,6 +2,7 @@
 //! It shows that the tests bite: each fault must be found, and no fault must be found where there is none.
 use crate::answer;
 use crate::histories::judge::{Ask, Reading};
+use crate::ropes::judge::spans_after;
 use crate::ropes::{row_of, units_of_row};
 use crate::row::{well_formed, Row};
 use model01::history::Body;
@@ -170,10 +171,11 @@ impl Pretend {
         let before = Rope01 { units: rows.iter().flat_map(units_of_row).collect() };
         let mut list = before.clone();
         let mut answer = self.answer(&mut list, call);
-        if let Answer::Refused(n) = answer {
-            return format!("no {n}\n");
-        }
         let room = if opening { self.next } else { self.room };
+        if let Answer::Refused(n) = answer {
+            let full = n == 11 && spans_after(&before, call) > room;
+            return format!("no {}\n", if full { 10 } else { n });
+        }
         if list.units != before.units && list.spans().len() > room {
             return "no 10\n".into();
         }
