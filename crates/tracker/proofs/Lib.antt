@@ -53,3 +53,4 @@ pub mod Measuring
 pub mod Betweens
 pub mod Readying
 pub mod Deltaing
+pub mod Batching

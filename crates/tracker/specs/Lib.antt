@@ -18,3 +18,4 @@ pub mod Fits
 pub mod Asks
 pub mod Measures
 pub mod Between
+pub mod Batches

@@ -16,6 +16,7 @@ pub mod range;
 pub mod refuse;
 pub mod restate;
 pub mod row;
+pub mod run;
 pub mod same;
 pub mod seen;
 pub mod stand;
