@@ -119,7 +119,7 @@ fn diff_into(
 }
 
 // The entries lent where n are asked: 8,192 at most.
-fn most(n: usize) -> usize
+pub fn most(n: usize) -> usize
     ensures { λ r. ⌜ r ≤ 8192 ⌝ }
 {
     if n < 8192 { n } else { 8192 }

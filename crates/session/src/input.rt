@@ -55,43 +55,60 @@ fn unread(bytes: &[u8], r: Reader) -> &[u8] {
     &bytes[..0]
 }
 
-// Answers the first line, where its end is there.
+// Whether a line's end is held.
+fn has_line(bytes: &[u8], r: Reader) -> bool {
+    let held = unread(bytes, r);
+    find(held, b'\n') < held.len()
+}
+
+// Answers the first line.
 fn next_line(
     bytes: &[u8],
     r: Reader,
     s: Session,
     store: &mut [u8],
+    targets: &mut [u8],
+    edits: &mut [u8],
     out: &mut [u8],
     text: &mut [u8],
 ) -> Turn {
     let held = unread(bytes, r);
     let n = find(held, b'\n');
-    if n < held.len() {
-        let s = answer::line(before(held, b'\n'), r.cut, s, store, out, text);
-        Turn {
-            reader: r.past(n),
-            session: s,
-            more: true,
-        }
-    } else {
-        Turn {
-            reader: r,
-            session: s,
-            more: false,
-        }
+    let s = answer::line(
+        before(held, b'\n'),
+        r.cut,
+        s,
+        store,
+        targets,
+        edits,
+        out,
+        text,
+    );
+    Turn {
+        reader: r.past(n),
+        session: s,
+        more: true,
     }
 }
 
-// Answers the last line, which may have no end.
+// Answers the last line, which may have no end, and writes the answers out.
 fn last_line(
     bytes: &[u8],
     r: Reader,
     s: Session,
     store: &mut [u8],
+    targets: &mut [u8],
+    edits: &mut [u8],
     out: &mut [u8],
     text: &mut [u8],
-) -> Session {
-    answer::line(unread(bytes, r), r.cut, s, store, out, text)
+) -> Turn {
+    let s = answer::line(unread(bytes, r), r.cut, s, store, targets, edits, out, text);
+    let at = reply::flush(text, s.at);
+    Turn {
+        reader: r,
+        session: s.said(at),
+        more: false,
+    }
 }
 
 // Moves the bytes from..to to the front, and answers how many they are.
@@ -152,6 +169,8 @@ fn refill(
     r: Reader,
     s: Session,
     store: &mut [u8],
+    targets: &mut [u8],
+    edits: &mut [u8],
     out: &mut [u8],
     bytes: &mut [u8],
     text: &mut [u8],
@@ -166,13 +185,7 @@ fn refill(
             more: true,
         };
     }
-    let s = last_line(bytes, reader, s, store, out, text);
-    let at = reply::flush(text, s.at);
-    Turn {
-        reader: reader,
-        session: s.said(at),
-        more: false,
-    }
+    last_line(bytes, reader, s, store, targets, edits, out, text)
 }
 
 // Answers one line, or reads.
@@ -181,21 +194,29 @@ fn step(
     r: Reader,
     s: Session,
     store: &mut [u8],
+    targets: &mut [u8],
+    edits: &mut [u8],
     out: &mut [u8],
     bytes: &mut [u8],
     text: &mut [u8],
 ) -> Turn {
-    let t = next_line(bytes, r, s, store, out, text);
-    if t.more {
-        return t;
+    if has_line(bytes, r) {
+        next_line(bytes, r, s, store, targets, edits, out, text)
+    } else {
+        refill(fd, r, s, store, targets, edits, out, bytes, text)
     }
-    let reader = t.reader;
-    let session = t.session;
-    refill(fd, reader, session, store, out, bytes, text)
 }
 
 // Answers line after line. Nothing says that a script ends, so the turns are counted down, from a number that no script uses up.
-pub fn lines(fd: i32, store: &mut [u8], out: &mut [u8], bytes: &mut [u8], text: &mut [u8]) {
+pub fn lines(
+    fd: i32,
+    store: &mut [u8],
+    targets: &mut [u8],
+    edits: &mut [u8],
+    out: &mut [u8],
+    bytes: &mut [u8],
+    text: &mut [u8],
+) {
     let mut s = Session::new();
     let mut r = Reader {
         from: 0,
@@ -205,7 +226,7 @@ pub fn lines(fd: i32, store: &mut [u8], out: &mut [u8], bytes: &mut [u8], text: 
     let mut turns = u64::MAX;
     while 0 < turns {
         turns -= 1;
-        let t = step(fd, r, s, store, out, bytes, text);
+        let t = step(fd, r, s, store, targets, edits, out, bytes, text);
         if !t.more {
             return;
         }

@@ -37,15 +37,15 @@ fn rows_of(s: &[u8]) -> usize {
     }
 }
 
-pub fn len(s: &[u8], text: &mut [u8], at: usize) -> usize {
-    match rope::query::visible_len(s) {
+fn len(r: LenAnswer, text: &mut [u8], at: usize) -> usize {
+    match r {
         LenAnswer::Done(n) => reply::counted(text, at, b"len", n as u64),
         LenAnswer::Refused(code) => reply::refused(text, at, code),
     }
 }
 
-pub fn at_pos(s: &[u8], pos: u32, text: &mut [u8], at: usize) -> usize {
-    match rope::query::active_real_span_at(s, pos) {
+fn at_pos(r: RealAnswer, text: &mut [u8], at: usize) -> usize {
+    match r {
         RealAnswer::At(id, left) => {
             let at = reply::make_room(text, at);
             let at = put(text, at, b"at");
@@ -73,7 +73,7 @@ fn unit(kind: Kind, x: FugueSpan, k: u32, next: u32, text: &mut [u8], at: usize)
         SpanAnswer::Done(u) => match kind {
             Kind::Units => reply::unit(text, at, u),
             Kind::Spans => at,
-            Kind::Items => reply::item(text, at, u),
+            Kind::Items => reply::item(text, at, u.real_id(), u.content),
         },
         SpanAnswer::Refused(_) => at,
     }
@@ -149,9 +149,9 @@ fn head(kind: Kind, n: u64, text: &mut [u8], at: usize) -> usize {
     }
 }
 
-// The list, a line for each unit, span or visible unit.
-pub fn list(kind: Kind, s: &[u8], text: &mut [u8], at: usize) -> usize {
-    if !rope::state::check(s) {
+// The list, a line for each unit, span or visible unit, where it is well formed.
+fn list(fine: bool, kind: Kind, s: &[u8], text: &mut [u8], at: usize) -> usize {
+    if !fine {
         return reply::refused(text, at, 15);
     }
     let n = rows_of(s);
@@ -191,23 +191,62 @@ fn sum_from(s: &[u8], start: u64) -> u64 {
     sum
 }
 
-// Over all that is lent.
-pub fn sum(s: &[u8], out: &[u8], text: &mut [u8], at: usize) -> usize {
+fn put_sum(sum: u64, text: &mut [u8], at: usize) -> usize {
     let at = reply::make_room(text, at);
     let at = put(text, at, b"sum ");
-    let at = put_hex(text, at, sum_from(out, sum_from(s, 1)));
+    let at = put_hex(text, at, sum);
     put(text, at, b"\n")
 }
 
-pub fn look(l: Look, s: &mut [u8], out: &[u8], text: &mut [u8], at: usize) -> usize {
+// Over all that is lent to a rope.
+fn rope_sum(s: &[u8], out: &[u8]) -> u64 {
+    sum_from(out, sum_from(s, 1))
+}
+
+// Over all that is lent to a history.
+fn history_sum(s: &[u8], t: &[u8], e: &[u8], out: &[u8]) -> u64 {
+    let lists = sum_from(t, sum_from(s, 1));
+    sum_from(out, sum_from(e, lists))
+}
+
+fn rope_list(kind: Kind, s: &[u8], text: &mut [u8], at: usize) -> usize {
+    list(rope::state::check(s), kind, s, text, at)
+}
+
+fn history_list(kind: Kind, s: &[u8], t: &[u8], e: &[u8], text: &mut [u8], at: usize) -> usize {
+    list(tracker::check::check(s, t, e), kind, s, text, at)
+}
+
+pub fn look_at_rope(l: Look, s: &mut [u8], out: &[u8], text: &mut [u8], at: usize) -> usize {
     match l {
-        Look::At(pos) => at_pos(s, pos, text, at),
-        Look::Len => len(s, text, at),
-        Look::Dump => list(Kind::Units, s, text, at),
-        Look::Spans => list(Kind::Spans, s, text, at),
-        Look::Visible => list(Kind::Items, s, text, at),
+        Look::At(pos) => at_pos(rope::query::active_real_span_at(s, pos), text, at),
+        Look::Len => len(rope::query::visible_len(s), text, at),
+        Look::Dump => rope_list(Kind::Units, s, text, at),
+        Look::Spans => rope_list(Kind::Spans, s, text, at),
+        Look::Visible => rope_list(Kind::Items, s, text, at),
         Look::Row(i, x) => put_row(s, i, x, text, at),
         Look::Rows(n) => set_rows(s, n, text, at),
-        Look::Sum => sum(s, out, text, at),
+        Look::Sum => put_sum(rope_sum(s, out), text, at),
+    }
+}
+
+pub fn look_at_history(
+    l: Look,
+    s: &mut [u8],
+    t: &[u8],
+    e: &[u8],
+    out: &[u8],
+    text: &mut [u8],
+    at: usize,
+) -> usize {
+    match l {
+        Look::At(pos) => at_pos(tracker::query::active_real_span_at(s, t, e, pos), text, at),
+        Look::Len => len(tracker::query::visible_len(s, t, e), text, at),
+        Look::Dump => history_list(Kind::Units, s, t, e, text, at),
+        Look::Spans => history_list(Kind::Spans, s, t, e, text, at),
+        Look::Visible => history_list(Kind::Items, s, t, e, text, at),
+        Look::Row(i, x) => put_row(s, i, x, text, at),
+        Look::Rows(n) => set_rows(s, n, text, at),
+        Look::Sum => put_sum(history_sum(s, t, e, out), text, at),
     }
 }

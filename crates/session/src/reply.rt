@@ -1,6 +1,8 @@
 // The words of an answer, put into the answer buffer, and the buffer written out.
 ghost use Rattle.io.specs.Counts.{Counts};
 use script::print;
+use span::chunk::RichtextChunk;
+use span::ids::Id;
 use span::span::FugueSpan;
 use text::puts::put;
 
@@ -70,10 +72,10 @@ pub fn span(text: &mut [u8], at: usize, name: &[u8], x: FugueSpan) -> usize {
 }
 
 // item ID CHUNK
-pub fn item(text: &mut [u8], at: usize, x: FugueSpan) -> usize {
+pub fn item(text: &mut [u8], at: usize, id: Id, content: RichtextChunk) -> usize {
     let at = make_room(text, at);
     let at = put(text, at, b"item");
-    let at = print::id(text, at, x.real_id());
-    let at = print::chunk(text, at, x.content);
+    let at = print::id(text, at, id);
+    let at = print::chunk(text, at, content);
     put(text, at, b"\n")
 }

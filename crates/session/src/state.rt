@@ -2,14 +2,17 @@
 pub enum Open {
     Nothing,
     Rope,
+    History,
 }
 
 pub struct Session {
-    // What is open, and the rows lent to it.
+    // What is open, and the rows and target rows lent to it.
     pub open: Open,
     pub lent: u32,
+    pub held: u32,
     // What the next opening lends, and the next call.
     pub room: u32,
+    pub targets: u32,
     pub out: u32,
     // How much of the answer buffer is written.
     pub at: usize,
@@ -21,7 +24,9 @@ impl Session {
         Session {
             open: Open::Nothing,
             lent: 0,
+            held: 0,
             room: 4294967295,
+            targets: 4294967295,
             out: 4294967295,
             at: 0,
         }
@@ -38,17 +43,24 @@ impl Session {
         self
     }
 
+    pub fn with_targets(mut self, n: u32) -> Self {
+        self.targets = n;
+        self
+    }
+
     pub fn with_out(mut self, n: u32) -> Self {
         self.out = n;
         self
     }
 
-    // A rope is open in the room that was said.
-    pub fn opened(self) -> Self {
+    // A rope or a history is open in the room that was said.
+    pub fn opened(self, what: Open) -> Self {
         Session {
-            open: Open::Rope,
+            open: what,
             lent: self.room,
+            held: self.targets,
             room: self.room,
+            targets: self.targets,
             out: self.out,
             at: self.at,
         }

@@ -1,0 +1,60 @@
+use lib.ListN.{length}
+use borrow.Author.Needs.{needs}
+use native.Mathlib.Omega.{arith}
+use mathlib.Core.Path.{_≡_}
+use Prim.Native.Nat.{_-_}
+use Rattle.session.proofs.applied.items.Statement.{statement}
+use Rattle.session.proofs.applied.items.Tie as tie
+use Rattle.session.proofs.applied.items.Reads as reads
+use Rattle.session.proofs.applied.items.Lts as lts
+use Rattle.session.proofs.applied.item.Reads as item-reads
+use Rattle.session.proofs.reply.counted.Reads as counted-reads
+
+abbrev Inv-loop : tie.InvT-loop
+Inv-loop out n text₀ start at₀ i₀ text at i = length text ≡ length text₀
+
+abbrev μ-loop : tie.MeasureT-loop
+μ-loop out n text₀ start at₀ i₀ text at i = n - i
+
+slice-aggregate-counted : tie.Need-slice-aggregate-counted Inv-loop μ-loop
+slice-aggregate-counted c = search needs
+
+counted-requires : tie.Need-counted-requires Inv-loop μ-loop
+counted-requires c κs = tt
+
+loop-holds : tie.Need-loop-holds Inv-loop μ-loop
+loop-holds c = search needs
+
+item-requires : tie.Need-item-requires Inv-loop μ-loop
+item-requires c κs = tt
+
+add-i : tie.Need-add-i Inv-loop μ-loop
+add-i c = omega arith
+
+loop-less : tie.Need-loop-less Inv-loop μ-loop
+loop-less c = omega arith
+
+loop-again : tie.Need-loop-again Inv-loop μ-loop
+loop-again c = search needs
+
+same-length : tie.Need-same-length Inv-loop μ-loop
+same-length c = search needs
+
+returns : tie.Need-returns Inv-loop μ-loop
+returns c = tt
+
+pub items-spec : {M : Type 1} → statement M
+items-spec =
+    tie.close
+    (tie.spec
+    Inv-loop
+    μ-loop
+    slice-aggregate-counted
+    counted-requires
+    loop-holds
+    item-requires
+    add-i
+    loop-less
+    loop-again
+    same-length
+    returns)

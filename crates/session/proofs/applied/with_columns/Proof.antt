@@ -1,0 +1,82 @@
+use lib.Seq.{length-take-le}
+use mathlib.Core.Path.{sym}
+use borrow.Author.Needs.{needs}
+use Rattle.session.proofs.applied.with_columns.Statement.{statement}
+use Rattle.session.proofs.applied.with_columns.Tie as tie
+use Rattle.session.proofs.applied.with_columns.Reads as reads
+use Rattle.session.proofs.applied.with_columns.Lts as lts
+use Rattle.session.proofs.applied.apply_delta.Reads as apply-delta-reads
+use Rattle.session.proofs.entries.most.Reads as most-reads
+
+most-requires : tie.Need-most-requires
+most-requires c κs = search needs
+
+array-borrow-prefix-kind : tie.Need-array-borrow-prefix-kind
+array-borrow-prefix-kind c = search needs
+
+slice-aggregate-apply-delta : tie.Need-slice-aggregate-apply-delta
+slice-aggregate-apply-delta c = sym (length-take-le _ _ (search needs))
+
+array-borrow-prefix-a : tie.Need-array-borrow-prefix-a
+array-borrow-prefix-a c = search needs
+
+slice-aggregate-apply-delta-2 : tie.Need-slice-aggregate-apply-delta-2
+slice-aggregate-apply-delta-2 c = sym (length-take-le _ _ (search needs))
+
+array-borrow-prefix-b : tie.Need-array-borrow-prefix-b
+array-borrow-prefix-b c = search needs
+
+slice-aggregate-apply-delta-3 : tie.Need-slice-aggregate-apply-delta-3
+slice-aggregate-apply-delta-3 c = sym (length-take-le _ _ (search needs))
+
+array-borrow-prefix-peer : tie.Need-array-borrow-prefix-peer
+array-borrow-prefix-peer c = search needs
+
+slice-aggregate-apply-delta-4 : tie.Need-slice-aggregate-apply-delta-4
+slice-aggregate-apply-delta-4 c = sym (length-take-le _ _ (search needs))
+
+array-borrow-prefix-counter : tie.Need-array-borrow-prefix-counter
+array-borrow-prefix-counter c = search needs
+
+slice-aggregate-apply-delta-5 : tie.Need-slice-aggregate-apply-delta-5
+slice-aggregate-apply-delta-5 c = sym (length-take-le _ _ (search needs))
+
+array-borrow-prefix-lamport : tie.Need-array-borrow-prefix-lamport
+array-borrow-prefix-lamport c = search needs
+
+slice-aggregate-apply-delta-6 : tie.Need-slice-aggregate-apply-delta-6
+slice-aggregate-apply-delta-6 c = sym (length-take-le _ _ (search needs))
+
+apply-delta-requires : tie.Need-apply-delta-requires
+apply-delta-requires c κs = search needs
+
+same-length : tie.Need-same-length
+same-length c = search needs
+
+same-length-2 : tie.Need-same-length-2
+same-length-2 c = search needs
+
+returns : tie.Need-returns
+returns c = search needs
+
+pub with-columns-spec : {M : Type 1} → statement M
+with-columns-spec =
+    tie.close
+    (tie.spec
+    most-requires
+    array-borrow-prefix-kind
+    slice-aggregate-apply-delta
+    array-borrow-prefix-a
+    slice-aggregate-apply-delta-2
+    array-borrow-prefix-b
+    slice-aggregate-apply-delta-3
+    array-borrow-prefix-peer
+    slice-aggregate-apply-delta-4
+    array-borrow-prefix-counter
+    slice-aggregate-apply-delta-5
+    array-borrow-prefix-lamport
+    slice-aggregate-apply-delta-6
+    apply-delta-requires
+    same-length
+    same-length-2
+    returns)

@@ -1,0 +1,19 @@
+use lib.Seq.{length-take-le}
+use mathlib.Core.Path.{sym}
+use borrow.Author.Needs.{needs}
+use Rattle.session.proofs.front.front8.Statement.{statement}
+use Rattle.session.proofs.front.front8.Tie as tie
+use Rattle.session.proofs.front.front8.Reads as reads
+use Rattle.session.proofs.front.front8.Lts as lts
+
+slice-aggregate-result : tie.Need-slice-aggregate-result
+slice-aggregate-result c = sym (length-take-le _ _ (search needs))
+
+returns : tie.Need-returns
+returns c = search needs
+
+returns-2 : tie.Need-returns-2
+returns-2 c = search needs
+
+pub front8-spec : {M : Type 1} → statement M
+front8-spec = tie.close (tie.spec slice-aggregate-result returns returns-2)

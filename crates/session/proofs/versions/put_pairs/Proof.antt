@@ -1,0 +1,55 @@
+use lib.ListN.{length}
+use borrow.Author.Needs.{needs}
+use native.Mathlib.Omega.{arith}
+use mathlib.Core.Path.{_≡_}
+use Prim.Native.Nat.{_-_}
+use Rattle.session.proofs.versions.put_pairs.Statement.{statement}
+use Rattle.session.proofs.versions.put_pairs.Tie as tie
+use Rattle.session.proofs.versions.put_pairs.Reads as reads
+use Rattle.session.proofs.versions.put_pairs.Lts as lts
+use Rattle.session.proofs.versions.put_pair.Reads as put-pair-reads
+
+abbrev Inv-loop : tie.InvT-loop
+Inv-loop w n peers₀ counts₀ i₀ peers counts i = (length peers ≡ length peers₀) × (length counts ≡ length counts₀)
+
+abbrev μ-loop : tie.MeasureT-loop
+μ-loop w n peers₀ counts₀ i₀ peers counts i = n - i
+
+loop-holds : tie.Need-loop-holds Inv-loop μ-loop
+loop-holds c = search needs
+
+put-pair-requires : tie.Need-put-pair-requires Inv-loop μ-loop
+put-pair-requires c κs = tt
+
+add-i : tie.Need-add-i Inv-loop μ-loop
+add-i c = omega arith
+
+loop-less : tie.Need-loop-less Inv-loop μ-loop
+loop-less c = omega arith
+
+loop-again : tie.Need-loop-again Inv-loop μ-loop
+loop-again c = search needs
+
+same-length : tie.Need-same-length Inv-loop μ-loop
+same-length c = search needs
+
+same-length-2 : tie.Need-same-length-2 Inv-loop μ-loop
+same-length-2 c = search needs
+
+returns : tie.Need-returns Inv-loop μ-loop
+returns c = tt
+
+pub put-pairs-spec : {M : Type 1} → statement M
+put-pairs-spec =
+    tie.close
+    (tie.spec
+    Inv-loop
+    μ-loop
+    loop-holds
+    put-pair-requires
+    add-i
+    loop-less
+    loop-again
+    same-length
+    same-length-2
+    returns)
