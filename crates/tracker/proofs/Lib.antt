@@ -54,3 +54,5 @@ pub mod Betweens
 pub mod Readying
 pub mod Deltaing
 pub mod Batching
+pub mod Entered
+pub mod Longer

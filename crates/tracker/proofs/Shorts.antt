@@ -70,7 +70,7 @@ module _ (s t e : List ℕ) where
   checkout-none v w = leaves-refused (checkoutNumber s t e v) (checkedOut s t e v) 15 s t e (number-none v w) (λ z. omega (arith, z))
 
   module _ (w : isHistory s t e ≡ true) where
-    few-pairs : (v : Version) → named (historyIn s t e .held) v ≡ true → length v ≤ 16
+    pub few-pairs : (v : Version) → named (historyIn s t e .held) v ≡ true → length v ≤ 16
     few-pairs v n = pairs-most (historyIn s t e .held) v (sound-of (room s) (targetRoom t) (historyIn s t e) (well-of s t e w .valid) .fit) n
 
     number-six : (v : Version) → named (historyIn s t e .held) v ≡ false → checkoutNumber s t e v ≡ 6
