@@ -8,7 +8,11 @@ use model01::*;
 pub fn script(seed: u64, calls: usize) -> Script {
     let mut random = Random::new(seed ^ 0xA551);
     let placeholder = if random.one_in(3) { 1 + random.below(8) as u32 } else { 0 };
-    let peers: Vec<u64> = (0..2 + random.below(4)).map(|_| random.pick(&[1, 2, 3, 4, 5, 7, 0, u64::MAX - 1])).collect();
+    let peers: Vec<u64> = if random.below(4) == 0 {
+        (1..=6 + random.below(11) as u64).collect()
+    } else {
+        (0..2 + random.below(4)).map(|_| random.pick(&[1, 2, 3, 4, 5, 7, 0, u64::MAX - 1])).collect()
+    };
     let longest = random.pick(&[1, 2, 6, 40]);
     let mut history = History::new(placeholder, true);
     let mut out = vec![Ask::New(placeholder)];
