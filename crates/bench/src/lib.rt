@@ -1,4 +1,4 @@
-// Questions to a store, exported for the benchmark in tests/bench: its driver owns the memory.
+// Questions to a store and the merge of a run of edits, exported for the benchmarks in tests/bench: their programs own the memory.
 use rope::find::Found;
 use rope::query::LenAnswer;
 use rope::query::RealAnswer;
@@ -43,4 +43,17 @@ pub extern "C" fn bench_find(s: &[u8], peer: u64, counter: u16) -> usize {
         Found::At(i, _) => i,
         Found::Nothing => n,
     }
+}
+
+// Opens a history with a placeholder of n units: 0 or the number of the refusal.
+#[no_mangle]
+pub extern "C" fn bench_open_with(s: &mut [u8], t: &[u8], e: &mut [u8], n: u32) -> u8 {
+    tracker::open::open_with(s, t, e, n)
+}
+
+// The edits in rows of 256 bytes arrive: how many were taken, times 256, plus the number of the refusal.
+#[no_mangle]
+pub extern "C" fn bench_arrive_all(s: &mut [u8], t: &mut [u8], e: &mut [u8], rows: &[u8]) -> u64 {
+    let run = tracker::run::arrive_all(s, t, e, rows);
+    ((run.taken as u64) << 8) | (run.code as u64)
 }
