@@ -29,7 +29,10 @@ pub struct Run {
 
 impl Lane {
     pub fn new(dir: &str) -> Lane {
-        let command = std::env::var("LANE").unwrap_or_else(|_| "target/bin/lane".into());
+        Lane::named(dir, &std::env::var("LANE").unwrap_or_else(|_| "target/bin/lane".into()))
+    }
+
+    pub fn named(dir: &str, command: &str) -> Lane {
         let dir = PathBuf::from(dir);
         std::fs::create_dir_all(&dir).expect("the folder for the runs is made");
         Lane { command: command.split_whitespace().map(String::from).collect(), dir, limit: Duration::from_secs(300) }

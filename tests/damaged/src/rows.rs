@@ -3,8 +3,9 @@
 //! of the rows (`row.rs`).
 use crate::calls;
 use crate::chance::Random;
+use crate::damage::{rows_of, Damage};
 use crate::lane::{has, Lane, Said};
-use crate::row::{well_formed, Row, UNKNOWN_PEER};
+use crate::row::well_formed;
 use std::collections::BTreeMap;
 
 #[derive(Default)]
@@ -21,12 +22,7 @@ struct Tally {
 struct Store {
     seed: u64,
     build: Vec<String>,
-    /// How many rows it may hold.
-    room: usize,
-    /// Lines that write rows, and whether each is known to change one.
-    damage: Vec<(String, bool)>,
-    /// The rows as they are known to stand once the damage is done.
-    rows: Vec<Row>,
+    damage: Damage,
     calls: Vec<String>,
 }
 
@@ -49,7 +45,7 @@ pub fn run(stores: u64, seed: u64) -> bool {
                 return false;
             };
             at += 1;
-            store.rows = rows;
+            store.damage.rows = rows;
             harm(store);
         }
         // the same stores, damaged
@@ -93,68 +89,14 @@ fn built(seed: u64) -> Store {
         build.push(calls::building(&mut random, i));
     }
     build.retain(|l| has(l));
-    Store { seed, build, room, damage: vec![], rows: vec![], calls: vec![] }
-}
-
-fn rows_of(said: &Said) -> Option<Vec<Row>> {
-    if !said[0].starts_with("spans ") {
-        return None;
-    }
-    said[1..].iter().map(|l| Row::read(&l.split(' ').skip(2).collect::<Vec<_>>())).collect()
-}
-
-impl Store {
-    fn write(&mut self, i: usize, row: Row) {
-        let changes = self.rows.get(i).is_some_and(|old| *old != row);
-        self.damage.push((format!("row {i} {}", row.words()), changes));
-        if let Some(old) = self.rows.get_mut(i) {
-            *old = row;
-        }
-    }
-
-    /// Writes a row after the last and takes it into the list.
-    fn add(&mut self, row: Row) {
-        let n = self.rows.len();
-        self.write(n, row);
-        self.damage.push((format!("rows {}", n + 1), true));
-        self.rows.push(row);
-    }
+    Store { seed, build, damage: Damage { room, lines: vec![], rows: vec![] }, calls: vec![] }
 }
 
 /// Writes some rows anew and chooses the calls.
 fn harm(store: &mut Store) {
     let mut random = Random::new(store.seed ^ 0x5EED);
     for _ in 0..random.below(4) {
-        let n = store.rows.len();
-        if n == 0 {
-            break;
-        }
-        let (i, j) = (random.below(n), random.below(n));
-        match random.below(12) {
-            0 => {
-                store.rows.pop();
-                store.damage.push((format!("rows {}", n - 1), true));
-            }
-            1 if n < store.room => {
-                let row = near(&mut random, store.rows[n - 1], &store.rows);
-                store.add(row);
-            }
-            2 if n < store.room => {
-                // the last row cut in two: every unit stands, but the list is not joined
-                let (first, second) = halves(store.rows[n - 1]);
-                store.write(n - 1, first);
-                store.add(second);
-            }
-            3 => {
-                let (a, b) = (store.rows[i], store.rows[j]);
-                store.write(i, b);
-                store.write(j, a);
-            }
-            _ => {
-                let row = near(&mut random, store.rows[i], &store.rows);
-                store.write(i, row);
-            }
-        }
+        store.damage.spoil(&mut random);
     }
     let out = random.pick(&[0, 1, 2, 64, 64, 64]);
     store.calls.push(format!("out {out}"));
@@ -167,75 +109,11 @@ fn harm(store: &mut Store) {
     store.calls.push("spans".into());
 }
 
-/// A row cut after its first unit, where it has more; else twice itself.
-fn halves(row: Row) -> (Row, Row) {
-    let (mut first, mut second) = (row, row);
-    if row.len().is_some_and(|n| n > 1) {
-        let up = |id: (u64, i32)| (id.0, id.1.wrapping_add(1));
-        if row.chunk.0 == u32::MAX {
-            (first.chunk.1, second.chunk.1) = (1, row.chunk.1 - 1);
-        } else {
-            first.chunk.1 = row.chunk.0 + 1;
-            second.chunk.0 += 1;
-        }
-        second.id = up(row.id);
-        second.lamport = row.lamport.wrapping_add(1);
-        second.real = row.real.map(up);
-        second.left = Some(row.id);
-    }
-    (first, second)
-}
-
-/// The row with one field changed.
-fn near(random: &mut Random, row: Row, rows: &[Row]) -> Row {
-    let mut out = row;
-    let held = rows[random.below(rows.len())].id;
-    let step = random.pick(&[-1, 1, 1, 2]);
-    let other = (random.below(5) as u64, random.below(12) as i32);
-    let id = random.pick(&[None, Some(held), Some(held), Some(other), Some((UNKNOWN_PEER, 0)), Some((1, -1)), Some((1, 2_147_483_647))]);
-    let status = (random.one_in(2), random.pick(&[0, 0, 1, -1, 32_767, -32_768]));
-    match random.below(14) {
-        0 => out.id.0 = random.pick(&[1, 2, 3, 9, 0, UNKNOWN_PEER]),
-        1 => out.id.1 = random.pick(&[row.id.1.wrapping_add(step), -1, 2_147_483_647, 2_147_483_646, 40]),
-        2 => out.lamport = random.pick(&[row.lamport.wrapping_add(1), 4_294_967_295, 4_294_967_294, 0]),
-        3 => out.real = id,
-        4 => out.real = row.real.map(|r| (r.0, r.1.wrapping_add(step))),
-        5 | 6 => out.status = status,
-        7 => out.diff = random.pick(&[None, Some(status)]),
-        8 | 9 => out.left = id,
-        10 => out.right = id,
-        11 => {
-            out.chunk.0 = random.pick(&[
-                row.chunk.0.wrapping_add(1),
-                row.chunk.0.wrapping_sub(1),
-                4_294_967_295,
-                4_294_967_294,
-                4_294_967_293,
-                4_294_967_292,
-            ])
-        }
-        12 => {
-            out.chunk.1 = random.pick(&[
-                row.chunk.1.wrapping_add(1),
-                row.chunk.1.wrapping_sub(1),
-                0,
-                row.chunk.0,
-                65_530,
-                65_600,
-                4_294_967_292,
-                4_294_967_293,
-            ])
-        }
-        _ => out = rows[random.below(rows.len())],
-    }
-    out
-}
-
 /// The whole script of a store: a sum after every line from the damage on.
 fn lines(store: &Store) -> Vec<String> {
     let mut out = store.build.clone();
     out.push("sum".into());
-    for line in store.damage.iter().map(|d| &d.0).chain(&store.calls) {
+    for line in store.damage.lines.iter().map(|d| &d.0).chain(&store.calls) {
         out.push(line.clone());
         out.push("sum".into());
     }
@@ -245,10 +123,10 @@ fn lines(store: &Store) -> Vec<String> {
 fn judge(store: &Store, said: &[Said], tally: &mut Tally) -> Result<(), (usize, String)> {
     let head = |i: usize| said.get(i).map(|s| s[0].as_str()).ok_or((i, "no answer".to_string()));
     let start = store.build.len();
-    let formed = well_formed(&store.rows);
+    let formed = well_formed(&store.damage.rows);
     tally.stores += 1;
     tally.damaged += u64::from(!formed);
-    for (k, (_, changes)) in store.damage.iter().enumerate() {
+    for (k, (_, changes)) in store.damage.lines.iter().enumerate() {
         let at = start + 1 + 2 * k;
         if head(at)? != "ok" {
             return Err((at, format!("the row was not written: {}", head(at)?)));
@@ -256,7 +134,7 @@ fn judge(store: &Store, said: &[Said], tally: &mut Tally) -> Result<(), (usize, 
         tally.writes += u64::from(*changes);
         tally.seen += u64::from(*changes && head(at - 1)? != head(at + 1)?);
     }
-    let first = start + 1 + 2 * store.damage.len();
+    let first = start + 1 + 2 * store.damage.lines.len();
     for (k, line) in store.calls.iter().enumerate() {
         let at = first + 2 * k;
         let (before, answer, after) = (head(at - 1)?, head(at)?, head(at + 1)?);
