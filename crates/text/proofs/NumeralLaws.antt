@@ -6,7 +6,7 @@ use Prim.Native.Nat.{ℕ, zero, suc, _+_, _-_, _*_, _/_, _%_, _^_, _≤_, _<_}
 use native.Mathlib.Omega.{arith}
 use native.Mathlib.Nat.{pow-suc}
 use native.Mathlib.Numerals.{unary-clauses}
-use borrow.Author.Tests.{le-leb, lt-ltb, le-ltb, ltb-true}
+use borrow.Author.Tests.{leb-true, leb-false, le-leb, lt-ltb, le-ltb, ltb-true}
 use lib.Dec.{leb, ltb}
 use lib.ListN.{length, length-append}
 use Rattle.io.specs.Digits.{glyph, digits, Fewest}
@@ -23,6 +23,10 @@ ten-pos (suc k) = rw (pow-suc 10 k) (omega (arith, ten-pos k))
 ten-more : (a d : ℕ) → 10 ^ a ≤ 10 ^ (a + d)
 ten-more a zero = simp unary-clauses (omega arith)
 ten-more a (suc d) = simp (unary-clauses, pow-suc) (omega (arith, ten-more a d))
+
+sixteen-more : (a d : ℕ) → 16 ^ a ≤ 16 ^ (a + d)
+sixteen-more a zero = simp unary-clauses (omega arith)
+sixteen-more a (suc d) = simp (unary-clauses, pow-suc) (omega (arith, sixteen-more a d))
 
 places-is : (f k n : ℕ) → n < 10 ^ suc k → (0 < k → 10 ^ k ≤ n) → k ≤ f → suc k ≡ places f n
 unfolding places
@@ -49,6 +53,18 @@ fewest-numeral n k f h = ap (λ (j : ℕ). digits 10 j n) (fewest-places n k f (
         let m = ten-more 20 (k - 1 - 20) in
         let e : 20 + (k - 1 - 20) ≡ k - 1 = omega arith in
         omega (arith, rw e at m)
+
+-- a u64 in sixteen places of base 16
+pub fewest-hex : (n k : ℕ) → Fewest 16 16 n k → n < 18446744073709551616 → digits 16 k n ≡ digits 16 16 n
+fewest-hex n k f h = ap (λ (j : ℕ). digits 16 j n) (go (leb k 16) refl)
+  where
+    go : (q : Bool) → leb k 16 ≡ q → k ≡ 16
+    go true e = let l : k ≤ 16 = leb-true k 16 e in omega (arith, f .0)
+    go false e = let l : 16 < k = leb-false k 16 e in
+        let g = f .2 l in
+        let d : k - 1 ≡ 16 + (k - 1 - 16) = omega arith in
+        let m : 16 ^ 16 ≤ 16 ^ (16 + (k - 1 - 16)) = sixteen-more 16 (k - 1 - 16) in
+        absurd (omega (arith, rw d at g, m, h))
 
 -- ---- reading back
 
@@ -94,6 +110,11 @@ places-holds (suc f) n h = go (ltb n 10) refl (places-holds f (n / 10) (omega (a
     go : (t : Bool) → ltb n 10 ≡ t → n / 10 < 10 ^ places f (n / 10) → (0 < cond t 1 (suc (places f (n / 10)))) × (n < 10 ^ cond t 1 (suc (places f (n / 10))))
     go true e r = (omega arith, ltb-true n 10 e)
     go false e r = (omega arith, rw (pow-suc 10 (places f (n / 10))) (omega arith))
+
+-- its bytes are digits
+pub numeral-digits : (n : ℕ) → allDigits (numeral n) ≡ true
+unfolding numeral
+numeral-digits n = all-digits (places 19 n) n
 
 -- a number that is put is read back
 pub decimal-numeral : (most n : ℕ) → n ≤ most → n < 10 ^ 20 → decimalOf most (numeral n) ≡ Is n

@@ -1,3 +1,4 @@
+pub mod Ascii
 pub mod Parts
 pub mod Numbers
 pub mod Puts

@@ -3,6 +3,7 @@ use Prim.Native.Nat.{ℕ, zero, suc, _+_, _-_, _*_, _/_}
 use mathlib.Core.Bool.{Bool, true, false, cond, _&&_}
 use mathlib.Core.List.{List, [], _∷_}
 use lib.Dec.{leb, ltb, eqb}
+use lib.IntN.{ℤ, pos, negsuc}
 use Rattle.io.specs.Digits.{digits}
 use Rattle.text.specs.declared.numbers.Number.{Number}
 use Rattle.text.specs.declared.numbers.Number.the-variants.{Is, Nothing}
@@ -41,6 +42,11 @@ places (suc k) n = cond (ltb n 10) 1 (suc (places k (n / 10)))
 -- a u64's digits, with no zero in front: it has at most 20
 unfoldable pub numeral : ℕ → List ℕ
 numeral n = digits 10 (places 19 n) n
+
+-- the digits of a whole number, with a minus sign (45) below zero
+unfoldable pub intText : ℤ → List ℕ
+intText (pos n) = numeral n
+intText (negsuc n) = 45 ∷ numeral (suc n)
 
 -- the numbers from -(most + 1) to most stand by their two's complement bits: -n is 2 * (most + 1) - n
 unfoldable pub negated : ℕ → Number → Number
