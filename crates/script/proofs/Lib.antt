@@ -1,1 +1,5 @@
+pub mod CallLaws
 pub mod FieldLaws
+pub mod PrintLaws
+pub mod ReadBack
+pub mod VersionLaws

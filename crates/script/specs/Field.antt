@@ -1,7 +1,7 @@
--- What a word says, field by field (docs/SCRIPT.md). Text is bytes: 32 is the blank, 44 `,`, 45 `-`, 46 `.`, 48 `0`, 49 `1`, 58 `:`, 85 `U`.
+-- What a word says, field by field (docs/SCRIPT.md). Text is bytes: 32 is the blank, 46 `.`, 58 `:`.
 use Prim.Native.Nat.{ℕ}
 use mathlib.Core.Bool.{Bool, true, false, cond}
-use mathlib.Core.List.{List, [], _∷_}
+use mathlib.Core.List.{List}
 use lib.Dec.{eqb}
 use mir.Syntax.{w16}
 use mir.Val.{toZ}
@@ -11,7 +11,8 @@ use Rattle.text.specs.declared.numbers.Number32.{Number32}
 use Rattle.text.specs.declared.numbers.Number32.the-variants as U32
 use Rattle.text.specs.declared.numbers.Number16.{Number16}
 use Rattle.text.specs.declared.numbers.Number16.the-variants as U16
-use Rattle.text.specs.Parts.{before, after, rest, part, parts, sameText}
+use Rattle.text.specs.Ascii.{ascii}
+use Rattle.text.specs.Parts.{before, after, part, parts, sameText}
 use Rattle.text.specs.Numbers.{decimalOf, signedOf, fit32, fit16}
 use Rattle.span.specs.Chunk.{UNKNOWN, START, END, moveChunk}
 use Rattle.span.specs.declared.ids.OptId.the-variants as OptId
@@ -27,6 +28,8 @@ use Rattle.script.specs.declared.field.OptStatusField.{OptStatusField}
 use Rattle.script.specs.declared.field.OptStatusField.the-variants as Diff
 use Rattle.script.specs.declared.field.ChunkField.{ChunkField}
 use Rattle.script.specs.declared.field.ChunkField.the-variants as Chunk
+use Rattle.script.specs.declared.field.SpanField.{SpanField}
+use Rattle.script.specs.declared.field.SpanField.the-variants as Span
 use Rattle.script.specs.declared.field.FlagField.{FlagField}
 use Rattle.script.specs.declared.field.FlagField.the-variants as Flag
 use Rattle.script.specs.declared.field.ChangeField.{ChangeField}
@@ -41,7 +44,7 @@ numberOf w = fit32 (decimalOf 4294967295 w)
 
 -- a u64, or `U`
 unfoldable pub peerOf : List ℕ → Number
-peerOf w = cond (sameText w (85 ∷ [])) (U64.Is 18446744073709551615) (decimalOf 18446744073709551615 w)
+peerOf w = cond (sameText w (ascii "U")) (U64.Is 18446744073709551615) (decimalOf 18446744073709551615 w)
 
 -- a peer and a counter
 abbrev pub idBy : Number → Number32 → IdField
@@ -62,7 +65,7 @@ optBy Id.Bad = Opt.Bad
 optBy (Id.Is i) = Opt.Is (OptId.At i)
 
 unfoldable pub optWord : List ℕ → OptIdField
-optWord w = cond (sameText w (45 ∷ [])) (Opt.Is OptId.Nothing) (optBy (idWord w))
+optWord w = cond (sameText w (ascii "-")) (Opt.Is OptId.Nothing) (optBy (idWord w))
 
 abbrev pub statusBy : Bool → Number16 → StatusField
 statusBy f U16.Nothing = Status.Bad
@@ -74,8 +77,8 @@ statusFrom f w = statusBy f (fit16 (signedOf 32767 w))
 -- now:COUNT, future:COUNT
 unfoldable pub statusWord : List ℕ → StatusField
 statusWord w =
-    cond (sameText (before 58 w) (110 ∷ 111 ∷ 119 ∷ [])) (statusFrom false (after 58 w))
-    (cond (sameText (before 58 w) (102 ∷ 117 ∷ 116 ∷ 117 ∷ 114 ∷ 101 ∷ [])) (statusFrom true (after 58 w)) Status.Bad)
+    cond (sameText (before 58 w) (ascii "now")) (statusFrom false (after 58 w))
+    (cond (sameText (before 58 w) (ascii "future")) (statusFrom true (after 58 w)) Status.Bad)
 
 -- a status, or `-`
 abbrev pub diffBy : StatusField → OptStatusField
@@ -83,7 +86,7 @@ diffBy Status.Bad = Diff.Bad
 diffBy (Status.Is s) = Diff.Is (OptStatus.Is s)
 
 unfoldable pub diffWord : List ℕ → OptStatusField
-diffWord w = cond (sameText w (45 ∷ [])) (Diff.Is OptStatus.Nothing) (diffBy (statusWord w))
+diffWord w = cond (sameText w (ascii "-")) (Diff.Is OptStatus.Nothing) (diffBy (statusWord w))
 
 -- an i16
 abbrev pub changeBy : Number16 → ChangeField
@@ -95,7 +98,7 @@ changeWord w = changeBy (fit16 (signedOf 32767 w))
 
 -- exactly 0 or 1
 unfoldable pub flagWord : List ℕ → FlagField
-flagWord w = cond (sameText w (48 ∷ [])) (Flag.Is false) (cond (sameText w (49 ∷ [])) (Flag.Is true) Flag.Bad)
+flagWord w = cond (sameText w (ascii "0")) (Flag.Is false) (cond (sameText w (ascii "1")) (Flag.Is true) Flag.Bad)
 
 -- any two numbers
 abbrev pub rawBy : Number32 → Number32 → ChunkField
@@ -114,19 +117,19 @@ reservedBy start (U32.Is n) = Chunk.Is (record { start = start; end = n })
 -- unknown N, start I, end I
 unfoldable pub twoWords : List ℕ → List ℕ → ChunkField
 twoWords name n =
-    cond (sameText name (117 ∷ 110 ∷ 107 ∷ 110 ∷ 111 ∷ 119 ∷ 110 ∷ [])) (reservedBy UNKNOWN (numberOf n))
-    (cond (sameText name (115 ∷ 116 ∷ 97 ∷ 114 ∷ 116 ∷ [])) (reservedBy START (numberOf n))
-    (cond (sameText name (101 ∷ 110 ∷ 100 ∷ [])) (reservedBy END (numberOf n)) Chunk.Bad))
+    cond (sameText name (ascii "unknown")) (reservedBy UNKNOWN (numberOf n))
+    (cond (sameText name (ascii "start")) (reservedBy START (numberOf n))
+    (cond (sameText name (ascii "end")) (reservedBy END (numberOf n)) Chunk.Bad))
 
 -- text A B, raw A B
 unfoldable pub threeWords : List ℕ → List ℕ → List ℕ → ChunkField
 threeWords name a b =
-    cond (sameText name (116 ∷ 101 ∷ 120 ∷ 116 ∷ [])) (rawFrom a b)
-    (cond (sameText name (114 ∷ 97 ∷ 119 ∷ [])) (rawFrom a b) Chunk.Bad)
+    cond (sameText name (ascii "text")) (rawFrom a b)
+    (cond (sameText name (ascii "raw")) (rawFrom a b) Chunk.Bad)
 
 -- move
 unfoldable pub oneWord : List ℕ → ChunkField
-oneWord name = cond (sameText name (109 ∷ 111 ∷ 118 ∷ 101 ∷ [])) (Chunk.Is moveChunk) Chunk.Bad
+oneWord name = cond (sameText name (ascii "move")) (Chunk.Is moveChunk) Chunk.Bad
 
 -- a chunk of n words
 unfoldable pub chunkBy : ℕ → List ℕ → ChunkField
@@ -137,3 +140,24 @@ chunkBy n t =
 
 abbrev pub chunkOf : List ℕ → ChunkField
 chunkOf t = chunkBy (parts 32 t) t
+
+-- the fields of a span
+abbrev pub spanBy : IdField → Number32 → OptIdField → StatusField → OptStatusField → OptIdField → OptIdField → ChunkField → SpanField
+spanBy Id.Bad n r s d x y c = Span.Bad
+spanBy (Id.Is i) U32.Nothing r s d x y c = Span.Bad
+spanBy (Id.Is i) (U32.Is n) Opt.Bad s d x y c = Span.Bad
+spanBy (Id.Is i) (U32.Is n) (Opt.Is r) Status.Bad d x y c = Span.Bad
+spanBy (Id.Is i) (U32.Is n) (Opt.Is r) (Status.Is s) Diff.Bad x y c = Span.Bad
+spanBy (Id.Is i) (U32.Is n) (Opt.Is r) (Status.Is s) (Diff.Is d) Opt.Bad y c = Span.Bad
+spanBy (Id.Is i) (U32.Is n) (Opt.Is r) (Status.Is s) (Diff.Is d) (Opt.Is x) Opt.Bad c = Span.Bad
+spanBy (Id.Is i) (U32.Is n) (Opt.Is r) (Status.Is s) (Diff.Is d) (Opt.Is x) (Opt.Is y) Chunk.Bad = Span.Bad
+spanBy (Id.Is i) (U32.Is n) (Opt.Is r) (Status.Is s) (Diff.Is d) (Opt.Is x) (Opt.Is y) (Chunk.Is c) =
+    Span.Is (record { id = i; lamport = n; «real_id» = r; status = s; «diff_status» = d; «origin_left» = x; «origin_right» = y; content = c })
+
+-- PEER.COUNTER LAMPORT REAL STATUS DIFF LEFT RIGHT A B
+unfoldable pub spanOf : List ℕ → SpanField
+spanOf t =
+    cond (eqb (parts 32 t) 9)
+    (spanBy (idWord (wordOf t 0)) (numberOf (wordOf t 1)) (optWord (wordOf t 2)) (statusWord (wordOf t 3)) (diffWord (wordOf t 4))
+    (optWord (wordOf t 5)) (optWord (wordOf t 6)) (rawFrom (wordOf t 7) (wordOf t 8)))
+    Span.Bad

@@ -1,1 +1,5 @@
 pub mod Field
+pub mod Version
+pub mod Call
+pub mod Print
+pub mod Rows

@@ -1,4 +1,6 @@
 // A line as a call: which it is, and its fields. Contexts and versions stay words of the line: an enum holds no list.
+ghost use mathlib.Core.Path.{_≡_};
+ghost use Rattle.script.specs.Call.{insertBy, insertFrom, insertCall, deleteBy, deleteFrom, deletingOf, arrivingBy, arrivingOf, setWord, updateBy, updatingOf, insOf, delOf, twoVersions, onVersions, rowBy, rowOf, aloneOf, numberedOf, pairCall, severalOf, callOf};
 use crate::field;
 use crate::field::ChangeField;
 use crate::field::ChunkField;
@@ -43,117 +45,6 @@ pub struct Update {
     pub future: SetFuture,
     pub change: i16,
     pub on_diff: bool,
-}
-
-pub enum InsertCall {
-    Is(Insert),
-    Bad,
-}
-
-pub enum DeleteCall {
-    Is(Delete),
-    Bad,
-}
-
-pub enum UpdateCall {
-    Is(Update),
-    Bad,
-}
-
-pub enum SetField {
-    Is(SetFuture),
-    Bad,
-}
-
-// POS PEER COUNTER LAMPORT CHUNK
-fn read_insert(t: &[u8]) -> InsertCall {
-    let Number32::Is(pos) = field::number(word(t, 0)) else {
-        return InsertCall::Bad;
-    };
-    let IdField::Is(id) = field::id_of(word(t, 1), word(t, 2)) else {
-        return InsertCall::Bad;
-    };
-    let Number32::Is(lamport) = field::number(word(t, 3)) else {
-        return InsertCall::Bad;
-    };
-    let ChunkField::Is(content) = field::chunk(rest(t, b' ', 4)) else {
-        return InsertCall::Bad;
-    };
-    InsertCall::Is(Insert {
-        pos: pos,
-        id: id,
-        lamport: lamport,
-        content: content,
-    })
-}
-
-// POS LEN TPEER TCOUNTER REV
-fn read_delete(t: &[u8]) -> DeleteCall {
-    if field::words(t) != 5 {
-        return DeleteCall::Bad;
-    }
-    let Number32::Is(pos) = field::number(word(t, 0)) else {
-        return DeleteCall::Bad;
-    };
-    let Number32::Is(len) = field::number(word(t, 1)) else {
-        return DeleteCall::Bad;
-    };
-    let IdField::Is(start) = field::id_of(word(t, 2), word(t, 3)) else {
-        return DeleteCall::Bad;
-    };
-    let FlagField::Is(reversed) = field::flag(word(t, 4)) else {
-        return DeleteCall::Bad;
-    };
-    DeleteCall::Is(Delete {
-        pos: pos,
-        len: len,
-        start: start,
-        reversed: reversed,
-    })
-}
-
-// future, now or keep
-fn set_future(w: &[u8]) -> SetField {
-    if same(w, b"future") {
-        return SetField::Is(SetFuture::Future);
-    }
-    if same(w, b"now") {
-        return SetField::Is(SetFuture::Now);
-    }
-    if same(w, b"keep") {
-        return SetField::Is(SetFuture::Keep);
-    }
-    SetField::Bad
-}
-
-// PEER FROM TO future|now|keep CHANGE DIFF
-fn read_update(t: &[u8]) -> UpdateCall {
-    if field::words(t) != 6 {
-        return UpdateCall::Bad;
-    }
-    let peer = word(t, 0);
-    let IdField::Is(from) = field::id_of(peer, word(t, 1)) else {
-        return UpdateCall::Bad;
-    };
-    let IdField::Is(to) = field::id_of(peer, word(t, 2)) else {
-        return UpdateCall::Bad;
-    };
-    let SetField::Is(future) = set_future(word(t, 3)) else {
-        return UpdateCall::Bad;
-    };
-    let ChangeField::Is(change) = field::change(word(t, 4)) else {
-        return UpdateCall::Bad;
-    };
-    let FlagField::Is(on_diff) = field::flag(word(t, 5)) else {
-        return UpdateCall::Bad;
-    };
-    UpdateCall::Is(Update {
-        from: from,
-        to: to,
-        future: future,
-        change: change,
-        on_diff: on_diff,
-    })
 }
 
 // PEER COUNTER of a deleting edit stand between LEN and TPEER.
@@ -205,39 +96,283 @@ pub enum Call {
     Bad,
 }
 
-// POS LEN PEER COUNTER TPEER TCOUNTER REV
-fn read_arriving(t: &[u8]) -> Call {
-    if field::words(t) != 7 {
+pub enum InsertField {
+    Is(Insert),
+    Bad,
+}
+
+pub enum DeleteField {
+    Is(Delete),
+    Bad,
+}
+
+pub enum SetField {
+    Is(SetFuture),
+    Bad,
+}
+
+// The fields of an insert, where each is one.
+fn insert_by(pos: Number32, id: IdField, lamport: Number32, content: ChunkField) -> InsertField
+    ensures { λ r. ⌜ r ≡ insertBy pos id lamport content ⌝ }
+{
+    let Number32::Is(pos) = pos else {
+        return InsertField::Bad;
+    };
+    let IdField::Is(id) = id else {
+        return InsertField::Bad;
+    };
+    let Number32::Is(lamport) = lamport else {
+        return InsertField::Bad;
+    };
+    let ChunkField::Is(content) = content else {
+        return InsertField::Bad;
+    };
+    InsertField::Is(Insert {
+        pos: pos,
+        id: id,
+        lamport: lamport,
+        content: content,
+    })
+}
+
+// POS PEER COUNTER LAMPORT CHUNK
+fn insert_from(t: &[u8]) -> InsertField
+    ensures { λ r. ⌜ r ≡ insertFrom (now (t .entry)) ⌝ }
+{
+    insert_by(
+        field::number(word(t, 0)),
+        field::id_of(word(t, 1), word(t, 2)),
+        field::number(word(t, 3)),
+        field::chunk(rest(t, b' ', 4)),
+    )
+}
+
+// An insert into a rope, or one that arrives at a history.
+fn inserting(t: &[u8], arrives: bool) -> Call
+    ensures { λ r. ⌜ r ≡ insertCall arrives (insertFrom (now (t .entry))) ⌝ }
+{
+    let InsertField::Is(x) = insert_from(t) else {
+        return Call::Bad;
+    };
+    if arrives {
+        Call::History(HistoryCall::Insert(x))
+    } else {
+        Call::Rope(RopeCall::Insert(x))
+    }
+}
+
+// The fields of a delete, where each is one.
+fn delete_by(pos: Number32, len: Number32, start: IdField, reversed: FlagField) -> DeleteField
+    ensures { λ r. ⌜ r ≡ deleteBy pos len start reversed ⌝ }
+{
+    let Number32::Is(pos) = pos else {
+        return DeleteField::Bad;
+    };
+    let Number32::Is(len) = len else {
+        return DeleteField::Bad;
+    };
+    let IdField::Is(start) = start else {
+        return DeleteField::Bad;
+    };
+    let FlagField::Is(reversed) = reversed else {
+        return DeleteField::Bad;
+    };
+    DeleteField::Is(Delete {
+        pos: pos,
+        len: len,
+        start: start,
+        reversed: reversed,
+    })
+}
+
+// POS LEN at the start of t, TPEER TCOUNTER REV at that of u.
+fn delete_from(t: &[u8], u: &[u8]) -> DeleteField
+    ensures { λ r. ⌜ r ≡ deleteFrom (now (t .entry)) (now (u .entry)) ⌝ }
+{
+    delete_by(
+        field::number(word(t, 0)),
+        field::number(word(t, 1)),
+        field::id_of(word(u, 0), word(u, 1)),
+        field::flag(word(u, 2)),
+    )
+}
+
+// POS LEN TPEER TCOUNTER REV
+fn deleting(t: &[u8]) -> Call
+    ensures { λ r. ⌜ r ≡ deletingOf (now (t .entry)) ⌝ }
+{
+    if field::words(t) != 5 {
         return Call::Bad;
     }
-    let Number32::Is(pos) = field::number(word(t, 0)) else {
+    match delete_from(t, rest(t, b' ', 2)) {
+        DeleteField::Is(x) => Call::Rope(RopeCall::Delete(x)),
+        DeleteField::Bad => Call::Bad,
+    }
+}
+
+// An edit's id and its delete, where each is one.
+fn arriving_by(id: IdField, delete: DeleteField) -> Call
+    ensures { λ r. ⌜ r ≡ arrivingBy id delete ⌝ }
+{
+    let IdField::Is(id) = id else {
         return Call::Bad;
     };
-    let Number32::Is(len) = field::number(word(t, 1)) else {
-        return Call::Bad;
-    };
-    let IdField::Is(id) = field::id_of(word(t, 2), word(t, 3)) else {
-        return Call::Bad;
-    };
-    let IdField::Is(start) = field::id_of(word(t, 4), word(t, 5)) else {
-        return Call::Bad;
-    };
-    let FlagField::Is(reversed) = field::flag(word(t, 6)) else {
+    let DeleteField::Is(delete) = delete else {
         return Call::Bad;
     };
     Call::History(HistoryCall::Delete(Arriving {
         id: id,
-        delete: Delete {
-            pos: pos,
-            len: len,
-            start: start,
-            reversed: reversed,
-        },
+        delete: delete,
     }))
 }
 
+// POS LEN PEER COUNTER TPEER TCOUNTER REV
+fn arrives(t: &[u8]) -> Call
+    ensures { λ r. ⌜ r ≡ arrivingOf (now (t .entry)) ⌝ }
+{
+    if field::words(t) != 7 {
+        return Call::Bad;
+    }
+    arriving_by(
+        field::id_of(word(t, 2), word(t, 3)),
+        delete_from(t, rest(t, b' ', 4)),
+    )
+}
+
+// future, now or keep
+fn set_future(w: &[u8]) -> SetField
+    ensures { λ r. ⌜ r ≡ setWord (now (w .entry)) ⌝ }
+{
+    if same(w, b"future") {
+        return SetField::Is(SetFuture::Future);
+    }
+    if same(w, b"now") {
+        return SetField::Is(SetFuture::Now);
+    }
+    if same(w, b"keep") {
+        return SetField::Is(SetFuture::Keep);
+    }
+    SetField::Bad
+}
+
+// The fields of an update, where each is one.
+fn update_by(
+    from: IdField,
+    to: IdField,
+    future: SetField,
+    change: ChangeField,
+    on_diff: FlagField,
+) -> Call
+    ensures { λ r. ⌜ r ≡ updateBy from to future change «on_diff» ⌝ }
+{
+    let IdField::Is(from) = from else {
+        return Call::Bad;
+    };
+    let IdField::Is(to) = to else {
+        return Call::Bad;
+    };
+    let SetField::Is(future) = future else {
+        return Call::Bad;
+    };
+    let ChangeField::Is(change) = change else {
+        return Call::Bad;
+    };
+    let FlagField::Is(on_diff) = on_diff else {
+        return Call::Bad;
+    };
+    Call::Rope(RopeCall::Update(Update {
+        from: from,
+        to: to,
+        future: future,
+        change: change,
+        on_diff: on_diff,
+    }))
+}
+
+// PEER FROM TO future|now|keep CHANGE DIFF
+fn updating(t: &[u8]) -> Call
+    ensures { λ r. ⌜ r ≡ updatingOf (now (t .entry)) ⌝ }
+{
+    if field::words(t) != 6 {
+        return Call::Bad;
+    }
+    let peer = word(t, 0);
+    update_by(
+        field::id_of(peer, word(t, 1)),
+        field::id_of(peer, word(t, 2)),
+        set_future(word(t, 3)),
+        field::change(word(t, 4)),
+        field::flag(word(t, 5)),
+    )
+}
+
+// CTX POS PEER COUNTER LAMPORT CHUNK
+fn ins(t: &[u8]) -> Call
+    ensures { λ r. ⌜ r ≡ insOf (now (t .entry)) ⌝ }
+{
+    if version::is_version(word(t, 0)) {
+        inserting(rest(t, b' ', 1), true)
+    } else {
+        Call::Bad
+    }
+}
+
+// CTX POS LEN PEER COUNTER TPEER TCOUNTER REV
+fn del(t: &[u8]) -> Call
+    ensures { λ r. ⌜ r ≡ delOf (now (t .entry)) ⌝ }
+{
+    if version::is_version(word(t, 0)) {
+        arrives(rest(t, b' ', 1))
+    } else {
+        Call::Bad
+    }
+}
+
+// Whether t is A B, two versions.
+fn two_versions(t: &[u8]) -> bool
+    ensures { λ r. ⌜ r ≡ twoVersions (now (t .entry)) ⌝ }
+{
+    if field::words(t) != 2 {
+        return false;
+    }
+    if version::is_version(word(t, 0)) {
+        version::is_version(word(t, 1))
+    } else {
+        false
+    }
+}
+
+// The call, where the versions that it names are some.
+fn on_versions(are: bool, c: HistoryCall) -> Call
+    ensures { λ r. ⌜ r ≡ onVersions are c ⌝ }
+{
+    if are { Call::History(c) } else { Call::Bad }
+}
+
+// A row's number and its span, where each is one.
+fn row_by(i: Number32, x: SpanField) -> Call
+    ensures { λ r. ⌜ r ≡ rowBy i x ⌝ }
+{
+    let Number32::Is(i) = i else {
+        return Call::Bad;
+    };
+    let SpanField::Is(x) = x else {
+        return Call::Bad;
+    };
+    Call::Look(Look::Row(i, x))
+}
+
+// I SPAN
+fn row(t: &[u8]) -> Call
+    ensures { λ r. ⌜ r ≡ rowOf (now (t .entry)) ⌝ }
+{
+    row_by(field::number(word(t, 0)), field::span(rest(t, b' ', 1)))
+}
+
 // A line of one word.
-fn alone(name: &[u8]) -> Call {
+fn alone(name: &[u8]) -> Call
+    ensures { λ r. ⌜ r ≡ aloneOf (now (name .entry)) ⌝ }
+{
     if same(name, b"empty") {
         return Call::Empty;
     }
@@ -266,7 +401,9 @@ fn alone(name: &[u8]) -> Call {
 }
 
 // A line of a name and a number.
-fn with_number(name: &[u8], n: u32) -> Call {
+fn numbered(name: &[u8], n: u32) -> Call
+    ensures { λ r. ⌜ r ≡ numberedOf (now (name .entry)) n ⌝ }
+{
     if same(name, b"room") {
         return Call::Room(n);
     }
@@ -292,60 +429,22 @@ fn with_number(name: &[u8], n: u32) -> Call {
 }
 
 // A line of two words.
-fn pair(name: &[u8], w: &[u8]) -> Call {
+fn pair(name: &[u8], w: &[u8]) -> Call
+    ensures { λ r. ⌜ r ≡ pairCall (now (name .entry)) (now (w .entry)) ⌝ }
+{
     if same(name, b"checkout") {
-        if version::is_version(w) {
-            return Call::History(HistoryCall::Checkout);
-        }
-        return Call::Bad;
+        return on_versions(version::is_version(w), HistoryCall::Checkout);
     }
     match field::number(w) {
-        Number32::Is(n) => with_number(name, n),
+        Number32::Is(n) => numbered(name, n),
         Number32::Nothing => Call::Bad,
     }
 }
 
-// I SPAN
-fn row(t: &[u8]) -> Call {
-    if field::words(t) != 10 {
-        return Call::Bad;
-    }
-    let Number32::Is(i) = field::number(word(t, 0)) else {
-        return Call::Bad;
-    };
-    match field::span(rest(t, b' ', 1)) {
-        SpanField::Is(x) => Call::Look(Look::Row(i, x)),
-        SpanField::Bad => Call::Bad,
-    }
-}
-
-fn inserting(t: &[u8], arrives: bool) -> Call {
-    let InsertCall::Is(x) = read_insert(t) else {
-        return Call::Bad;
-    };
-    if arrives {
-        Call::History(HistoryCall::Insert(x))
-    } else {
-        Call::Rope(RopeCall::Insert(x))
-    }
-}
-
-fn deleting(t: &[u8]) -> Call {
-    match read_delete(t) {
-        DeleteCall::Is(x) => Call::Rope(RopeCall::Delete(x)),
-        DeleteCall::Bad => Call::Bad,
-    }
-}
-
-fn updating(t: &[u8]) -> Call {
-    match read_update(t) {
-        UpdateCall::Is(x) => Call::Rope(RopeCall::Update(x)),
-        UpdateCall::Bad => Call::Bad,
-    }
-}
-
-// The rest of a line of several words: what goes to a rope, and `row`.
-fn on_rope(name: &[u8], t: &[u8]) -> Call {
+// A line of more words, t those after the name.
+fn several(name: &[u8], t: &[u8]) -> Call
+    ensures { λ r. ⌜ r ≡ severalOf (now (name .entry)) (now (t .entry)) ⌝ }
+{
     if same(name, b"insert") {
         return inserting(t, false);
     }
@@ -355,54 +454,28 @@ fn on_rope(name: &[u8], t: &[u8]) -> Call {
     if same(name, b"update") {
         return updating(t);
     }
+    if same(name, b"ins") {
+        return ins(t);
+    }
+    if same(name, b"del") {
+        return del(t);
+    }
+    if same(name, b"delta") {
+        return on_versions(two_versions(t), HistoryCall::Delta);
+    }
+    if same(name, b"applied") {
+        return on_versions(two_versions(t), HistoryCall::Applied);
+    }
     if same(name, b"row") {
         return row(t);
     }
     Call::Bad
 }
 
-// What goes to a history: an edit with its context, or two versions.
-fn on_history(name: &[u8], t: &[u8]) -> Call {
-    if !version::is_version(word(t, 0)) {
-        return Call::Bad;
-    }
-    if same(name, b"ins") {
-        return inserting(rest(t, b' ', 1), true);
-    }
-    if same(name, b"del") {
-        return read_arriving(rest(t, b' ', 1));
-    }
-    if field::words(t) != 2 {
-        return Call::Bad;
-    }
-    if !version::is_version(word(t, 1)) {
-        return Call::Bad;
-    }
-    if same(name, b"delta") {
-        return Call::History(HistoryCall::Delta);
-    }
-    if same(name, b"applied") {
-        return Call::History(HistoryCall::Applied);
-    }
-    Call::Bad
-}
-
-// Whether the name is that of a history's call of several words.
-fn of_history(name: &[u8]) -> bool {
-    if same(name, b"ins") {
-        return true;
-    }
-    if same(name, b"del") {
-        return true;
-    }
-    if same(name, b"delta") {
-        return true;
-    }
-    same(name, b"applied")
-}
-
 // The call that a line says: a line with no comment and no blank at its ends.
-pub fn parse(line: &[u8]) -> Call {
+pub fn parse(line: &[u8]) -> Call
+    ensures { λ r. ⌜ r ≡ callOf (now (line .entry)) ⌝ }
+{
     let name = word(line, 0);
     let n = field::words(line);
     if n == 1 {
@@ -411,10 +484,5 @@ pub fn parse(line: &[u8]) -> Call {
     if n == 2 {
         return pair(name, word(line, 1));
     }
-    let t = rest(line, b' ', 1);
-    if of_history(name) {
-        on_history(name, t)
-    } else {
-        on_rope(name, t)
-    }
+    several(name, rest(line, b' ', 1))
 }

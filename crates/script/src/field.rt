@@ -1,7 +1,7 @@
 // The fields of a call, each read from its word. A word that does not say one is `Bad`.
 ghost use mathlib.Core.Path.{_≡_};
 ghost use Rattle.text.specs.Parts.{parts};
-ghost use Rattle.script.specs.Field.{wordOf, numberOf, peerOf, idFrom, idWord, optWord, statusFrom, statusWord, diffWord, changeWord, flagWord, rawFrom, reservedBy, twoWords, threeWords, chunkOf};
+ghost use Rattle.script.specs.Field.{wordOf, numberOf, peerOf, idFrom, idWord, optWord, statusFrom, statusWord, diffWord, changeWord, flagWord, rawFrom, reservedBy, twoWords, threeWords, chunkOf, spanBy, spanOf};
 use span::chunk::RichtextChunk;
 use span::ids::Id;
 use span::ids::OptId;
@@ -263,30 +263,41 @@ pub fn chunk(t: &[u8]) -> ChunkField
     }
 }
 
-// PEER.COUNTER LAMPORT REAL STATUS DIFF LEFT RIGHT A B
-pub fn span(t: &[u8]) -> SpanField {
-    let IdField::Is(id) = id(word(t, 0)) else {
+// A span, where each field is one.
+fn span_by(
+    id: IdField,
+    lamport: Number32,
+    real: OptIdField,
+    status: StatusField,
+    diff: OptStatusField,
+    left: OptIdField,
+    right: OptIdField,
+    content: ChunkField,
+) -> SpanField
+    ensures { λ r. ⌜ r ≡ spanBy id lamport real status diff left right content ⌝ }
+{
+    let IdField::Is(id) = id else {
         return SpanField::Bad;
     };
-    let Number32::Is(lamport) = number(word(t, 1)) else {
+    let Number32::Is(lamport) = lamport else {
         return SpanField::Bad;
     };
-    let OptIdField::Is(real) = opt_id(word(t, 2)) else {
+    let OptIdField::Is(real) = real else {
         return SpanField::Bad;
     };
-    let StatusField::Is(status) = status(word(t, 3)) else {
+    let StatusField::Is(status) = status else {
         return SpanField::Bad;
     };
-    let OptStatusField::Is(diff) = opt_status(word(t, 4)) else {
+    let OptStatusField::Is(diff) = diff else {
         return SpanField::Bad;
     };
-    let OptIdField::Is(left) = opt_id(word(t, 5)) else {
+    let OptIdField::Is(left) = left else {
         return SpanField::Bad;
     };
-    let OptIdField::Is(right) = opt_id(word(t, 6)) else {
+    let OptIdField::Is(right) = right else {
         return SpanField::Bad;
     };
-    let ChunkField::Is(content) = raw(word(t, 7), word(t, 8)) else {
+    let ChunkField::Is(content) = content else {
         return SpanField::Bad;
     };
     SpanField::Is(FugueSpan {
@@ -299,4 +310,23 @@ pub fn span(t: &[u8]) -> SpanField {
         origin_right: right,
         content: content,
     })
+}
+
+// PEER.COUNTER LAMPORT REAL STATUS DIFF LEFT RIGHT A B
+pub fn span(t: &[u8]) -> SpanField
+    ensures { λ r. ⌜ r ≡ spanOf (now (t .entry)) ⌝ }
+{
+    if words(t) != 9 {
+        return SpanField::Bad;
+    }
+    span_by(
+        id(word(t, 0)),
+        number(word(t, 1)),
+        opt_id(word(t, 2)),
+        status(word(t, 3)),
+        opt_status(word(t, 4)),
+        opt_id(word(t, 5)),
+        opt_id(word(t, 6)),
+        raw(word(t, 7), word(t, 8)),
+    )
 }

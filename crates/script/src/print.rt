@@ -1,4 +1,6 @@
-// The fields of an answer, put into a lent buffer, each with a blank in front. As in text::puts, the answer is the place after it, or past the end.
+// The fields and lines of an answer, put into a lent buffer; a field has a blank in front. As in text::puts, the answer is the place after it, or past the end.
+ghost use Rattle.text.specs.Puts.{Puts};
+ghost use Rattle.script.specs.Print.{peerText, numberText, idText, optIdText, futureText, statusText, optStatusText, namedText, chunkText, spanText, headLine, unitLine, spanLine, itemLine, atLine};
 use span::chunk::AnchorType;
 use span::chunk::RichtextChunk;
 use span::chunk::RichtextChunkValue;
@@ -12,7 +14,11 @@ use text::puts::put;
 use text::puts::put_decimal;
 use text::puts::put_signed;
 
-fn peer(out: &mut [u8], at: usize, p: u64) -> usize {
+// ---- Fields
+
+fn peer(out: &mut [u8], at: usize, p: u64) -> usize
+    ensures { λ r. ⌜ Puts at (peerText p) (now (out .entry)) r (now (out .exit)) ⌝ }
+{
     if p == UNKNOWN_PEER {
         put(out, at, b"U")
     } else {
@@ -20,28 +26,36 @@ fn peer(out: &mut [u8], at: usize, p: u64) -> usize {
     }
 }
 
-pub fn number(out: &mut [u8], at: usize, n: u64) -> usize {
+pub fn number(out: &mut [u8], at: usize, n: u64) -> usize
+    ensures { λ r. ⌜ Puts at (numberText n) (now (out .entry)) r (now (out .exit)) ⌝ }
+{
     let at = put(out, at, b" ");
     put_decimal(out, at, n)
 }
 
 // PEER.COUNTER
-pub fn id(out: &mut [u8], at: usize, i: Id) -> usize {
+pub fn id(out: &mut [u8], at: usize, i: Id) -> usize
+    ensures { λ r. ⌜ Puts at (idText i) (now (out .entry)) r (now (out .exit)) ⌝ }
+{
     let at = put(out, at, b" ");
     let at = peer(out, at, i.peer);
     let at = put(out, at, b".");
-    put_signed(out, at, store::counter_bits(i), 2147483647)
+    put_signed(out, at, i.counter)
 }
 
-pub fn opt_id(out: &mut [u8], at: usize, o: OptId) -> usize {
+pub fn opt_id(out: &mut [u8], at: usize, o: OptId) -> usize
+    ensures { λ r. ⌜ Puts at (optIdText o) (now (out .entry)) r (now (out .exit)) ⌝ }
+{
     match o {
         OptId::Nothing => put(out, at, b" -"),
         OptId::At(i) => id(out, at, i),
     }
 }
 
-fn future(out: &mut [u8], at: usize, is_future: bool) -> usize {
-    if is_future {
+fn future(out: &mut [u8], at: usize, f: bool) -> usize
+    ensures { λ r. ⌜ Puts at (futureText f) (now (out .entry)) r (now (out .exit)) ⌝ }
+{
+    if f {
         put(out, at, b" future:")
     } else {
         put(out, at, b" now:")
@@ -49,12 +63,16 @@ fn future(out: &mut [u8], at: usize, is_future: bool) -> usize {
 }
 
 // now:COUNT or future:COUNT
-pub fn status(out: &mut [u8], at: usize, s: Status) -> usize {
+pub fn status(out: &mut [u8], at: usize, s: Status) -> usize
+    ensures { λ r. ⌜ Puts at (statusText s) (now (out .entry)) r (now (out .exit)) ⌝ }
+{
     let at = future(out, at, s.future);
-    put_signed(out, at, store::wide16(store::times_bits(s)), 32767)
+    put_signed(out, at, s.delete_times as i32)
 }
 
-pub fn opt_status(out: &mut [u8], at: usize, d: OptStatus) -> usize {
+pub fn opt_status(out: &mut [u8], at: usize, d: OptStatus) -> usize
+    ensures { λ r. ⌜ Puts at (optStatusText d) (now (out .entry)) r (now (out .exit)) ⌝ }
+{
     match d {
         OptStatus::Nothing => put(out, at, b" -"),
         OptStatus::Is(s) => status(out, at, s),
@@ -62,13 +80,17 @@ pub fn opt_status(out: &mut [u8], at: usize, d: OptStatus) -> usize {
 }
 
 // A name and a number.
-fn named(out: &mut [u8], at: usize, name: &[u8], n: u32) -> usize {
+fn named(out: &mut [u8], at: usize, name: &[u8], n: u32) -> usize
+    ensures { λ r. ⌜ Puts at (namedText (now (name .entry)) n) (now (out .entry)) r (now (out .exit)) ⌝ }
+{
     let at = put(out, at, name);
     number(out, at, n as u64)
 }
 
 // text A B, unknown N, start I, end I or move
-pub fn chunk(out: &mut [u8], at: usize, c: RichtextChunk) -> usize {
+pub fn chunk(out: &mut [u8], at: usize, c: RichtextChunk) -> usize
+    ensures { λ r. ⌜ Puts at (chunkText c) (now (out .entry)) r (now (out .exit)) ⌝ }
+{
     match c.value() {
         RichtextChunkValue::Text { start, end } => {
             let at = named(out, at, b" text", start);
@@ -84,7 +106,9 @@ pub fn chunk(out: &mut [u8], at: usize, c: RichtextChunk) -> usize {
 }
 
 // PEER.COUNTER LAMPORT REAL STATUS DIFF LEFT RIGHT CHUNK
-pub fn span(out: &mut [u8], at: usize, x: FugueSpan) -> usize {
+pub fn span(out: &mut [u8], at: usize, x: FugueSpan) -> usize
+    ensures { λ r. ⌜ Puts at (spanText x) (now (out .entry)) r (now (out .exit)) ⌝ }
+{
     let real = x.real_id;
     let diff = x.diff_status;
     let left = x.origin_left;
@@ -99,9 +123,51 @@ pub fn span(out: &mut [u8], at: usize, x: FugueSpan) -> usize {
     chunk(out, at, x.content)
 }
 
-// A name with its number, as `units N` and `no K`, and the line's end.
-pub fn head(out: &mut [u8], at: usize, name: &[u8], n: u64) -> usize {
+// ---- Lines
+
+// A name with its number, as `units N` and `no K`.
+pub fn head(out: &mut [u8], at: usize, name: &[u8], n: u64) -> usize
+    ensures { λ r. ⌜ Puts at (headLine (now (name .entry)) n) (now (out .entry)) r (now (out .exit)) ⌝ }
+{
     let at = put(out, at, name);
     let at = number(out, at, n);
+    put(out, at, b"\n")
+}
+
+// unit UNIT
+pub fn unit_line(out: &mut [u8], at: usize, x: FugueSpan) -> usize
+    ensures { λ r. ⌜ Puts at (unitLine x) (now (out .entry)) r (now (out .exit)) ⌝ }
+{
+    let at = put(out, at, b"unit");
+    let at = span(out, at, x);
+    put(out, at, b"\n")
+}
+
+// span LEN SPAN, and piece LEN SPAN
+pub fn span_line(out: &mut [u8], at: usize, name: &[u8], len: u32, x: FugueSpan) -> usize
+    ensures { λ r. ⌜ Puts at (spanLine (now (name .entry)) len x) (now (out .entry)) r (now (out .exit)) ⌝ }
+{
+    let at = named(out, at, name, len);
+    let at = span(out, at, x);
+    put(out, at, b"\n")
+}
+
+// item ID CHUNK
+pub fn item_line(out: &mut [u8], at: usize, i: Id, c: RichtextChunk) -> usize
+    ensures { λ r. ⌜ Puts at (itemLine i c) (now (out .entry)) r (now (out .exit)) ⌝ }
+{
+    let at = put(out, at, b"item");
+    let at = id(out, at, i);
+    let at = chunk(out, at, c);
+    put(out, at, b"\n")
+}
+
+// at ID LEFT
+pub fn at_line(out: &mut [u8], at: usize, i: Id, left: u32) -> usize
+    ensures { λ r. ⌜ Puts at (atLine i left) (now (out .entry)) r (now (out .exit)) ⌝ }
+{
+    let at = put(out, at, b"at");
+    let at = id(out, at, i);
+    let at = number(out, at, left as u64);
     put(out, at, b"\n")
 }

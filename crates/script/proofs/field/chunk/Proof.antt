@@ -4,8 +4,9 @@ use Rattle.script.proofs.FieldLaws.{three-same}
 use Rattle.script.specs.Field.{oneWord, twoWords, chunkBy}
 use Rattle.script.specs.declared.field.ChunkField.the-variants as Chunk
 use lib.Dec.{eqb}
+use Rattle.text.specs.Ascii.{ascii}
 use Rattle.text.specs.Parts.{sameText}
-use mathlib.Core.List.{List, [], _∷_}
+use mathlib.Core.List.{List}
 use Prim.Native.Nat.{ℕ}
 use mathlib.Core.Path.{sym, ap, ap₂, _∙_}
 use borrow.Author.Needs.{needs}
@@ -52,11 +53,11 @@ three-words-requires c κs = search needs
 
 returns : tie.Need-returns
 unfolding chunkBy oneWord
-returns c = rw (sym (c .before .before .before .before .before .words .ensures) ∙ c .before .before .before .before .match .keys1, sym (c .before .before .same .ensures ∙ ap (λ (l : List ℕ). sameText l (109 ∷ 111 ∷ 118 ∷ 101 ∷ [])) (c .before .before .before .before .before .before .word .ensures)) ∙ c .before .if1 .taken) (ap Chunk.Is (c .new-move .ensures))
+returns c = rw (sym (c .before .before .before .before .before .words .ensures) ∙ c .before .before .before .before .match .keys1, sym (c .before .before .same .ensures ∙ ap (λ (l : List ℕ). sameText l (ascii "move")) (c .before .before .before .before .before .before .word .ensures)) ∙ c .before .if1 .taken) (ap Chunk.Is (c .new-move .ensures))
 
 returns-2 : tie.Need-returns-2
 unfolding chunkBy oneWord
-returns-2 c = rw (sym (c .before .before .before .before .words .ensures) ∙ c .before .before .before .match .keys1, sym (c .before .same .ensures ∙ ap (λ (l : List ℕ). sameText l (109 ∷ 111 ∷ 118 ∷ 101 ∷ [])) (c .before .before .before .before .before .word .ensures)) ∙ c .if1 .left)
+returns-2 c = rw (sym (c .before .before .before .before .words .ensures) ∙ c .before .before .before .match .keys1, sym (c .before .same .ensures ∙ ap (λ (l : List ℕ). sameText l (ascii "move")) (c .before .before .before .before .before .word .ensures)) ∙ c .if1 .left)
 
 returns-3 : tie.Need-returns-3
 unfolding chunkBy

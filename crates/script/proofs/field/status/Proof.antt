@@ -1,7 +1,8 @@
 use mathlib.Core.Bool.{true, false}
 use Rattle.script.specs.Field.{statusFrom, statusWord}
+use Rattle.text.specs.Ascii.{ascii}
 use Rattle.text.specs.Parts.{sameText}
-use mathlib.Core.List.{List, [], _∷_}
+use mathlib.Core.List.{List}
 use Prim.Native.Nat.{ℕ}
 use mathlib.Core.Path.{sym, ap, ap₂, _∙_}
 use borrow.Author.Needs.{needs}
@@ -31,7 +32,7 @@ status-of-requires c κs = search needs
 
 returns : tie.Need-returns
 unfolding statusWord
-returns c = rw (sym (c .before .before .before .same .ensures ∙ ap (λ (l : List ℕ). sameText l (110 ∷ 111 ∷ 119 ∷ [])) (c .before .before .before .before .before .before2 .ensures)) ∙ c .before .before .if1 .taken) (c .status-of .ensures ∙ ap (statusFrom false) (c .before .after .ensures))
+returns c = rw (sym (c .before .before .before .same .ensures ∙ ap (λ (l : List ℕ). sameText l (ascii "now")) (c .before .before .before .before .before .before2 .ensures)) ∙ c .before .before .if1 .taken) (c .status-of .ensures ∙ ap (statusFrom false) (c .before .after .ensures))
 
 slice-aggregate-same-2 : tie.Need-slice-aggregate-same-2
 slice-aggregate-same-2 c = search needs
@@ -47,11 +48,11 @@ status-of-requires-2 c κs = search needs
 
 returns-2 : tie.Need-returns-2
 unfolding statusWord
-returns-2 c = rw (sym (c .before .before .before .before .before .before .same .ensures ∙ ap (λ (l : List ℕ). sameText l (110 ∷ 111 ∷ 119 ∷ [])) (c .before .before .before .before .before .before .before .before .before2 .ensures)) ∙ c .before .before .before .before .before .if1 .left, sym (c .before .before .before .same2 .ensures ∙ ap (λ (l : List ℕ). sameText l (102 ∷ 117 ∷ 116 ∷ 117 ∷ 114 ∷ 101 ∷ [])) (c .before .before .before .before .before .before .before .before .before2 .ensures)) ∙ c .before .before .if2 .taken) (c .status-of2 .ensures ∙ ap (statusFrom true) (c .before .after2 .ensures))
+returns-2 c = rw (sym (c .before .before .before .before .before .before .same .ensures ∙ ap (λ (l : List ℕ). sameText l (ascii "now")) (c .before .before .before .before .before .before .before .before .before2 .ensures)) ∙ c .before .before .before .before .before .if1 .left, sym (c .before .before .before .same2 .ensures ∙ ap (λ (l : List ℕ). sameText l (ascii "future")) (c .before .before .before .before .before .before .before .before .before2 .ensures)) ∙ c .before .before .if2 .taken) (c .status-of2 .ensures ∙ ap (statusFrom true) (c .before .after2 .ensures))
 
 returns-3 : tie.Need-returns-3
 unfolding statusWord
-returns-3 c = rw (sym (c .before .before .before .before .same .ensures ∙ ap (λ (l : List ℕ). sameText l (110 ∷ 111 ∷ 119 ∷ [])) (c .before .before .before .before .before .before .before2 .ensures)) ∙ c .before .before .before .if1 .left, sym (c .before .same2 .ensures ∙ ap (λ (l : List ℕ). sameText l (102 ∷ 117 ∷ 116 ∷ 117 ∷ 114 ∷ 101 ∷ [])) (c .before .before .before .before .before .before .before2 .ensures)) ∙ c .if2 .left)
+returns-3 c = rw (sym (c .before .before .before .before .same .ensures ∙ ap (λ (l : List ℕ). sameText l (ascii "now")) (c .before .before .before .before .before .before .before2 .ensures)) ∙ c .before .before .before .if1 .left, sym (c .before .same2 .ensures ∙ ap (λ (l : List ℕ). sameText l (ascii "future")) (c .before .before .before .before .before .before .before2 .ensures)) ∙ c .if2 .left)
 
 pub status-spec : {M : Type 1} → statement M
 status-spec =
