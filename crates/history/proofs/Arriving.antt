@@ -179,10 +179,11 @@ module _ (h : History) (us : List FugueSpan) (same : sameUnits us (madeUnits h) 
 
 -- ---- the list of a valid history, at any version
 
-shown-few : (l : List FugueSpan) → shown l ≤ length l
+-- as many units are visible as there are, at the most
+pub shown-most : (l : List FugueSpan) → shown l ≤ length l
 unfolding shown
-shown-few [] = omega arith
-shown-few (u ∷ l) = go (activated (u .status)) (shown-few l)
+shown-most [] = omega arith
+shown-most (u ∷ l) = go (activated (u .status)) (shown-most l)
   where
     go : (b : Bool) → shown l ≤ length l → cond b (suc (shown l)) (shown l) ≤ suc (length l)
     go true k = omega arith
@@ -268,4 +269,4 @@ module _ (spans targets : ℕ) (h : History) (ok : valid spans targets h ≡ tru
 
     -- so within u32
     pub gone-small : inside (e .act) (e .at) us ≡ true → e .at + n ≤ 65536
-    gone-small i = omega (arith, gone-low i, shown-few us, at-few (e .context))
+    gone-small i = omega (arith, gone-low i, shown-most us, at-few (e .context))

@@ -45,6 +45,7 @@ use Rattle.history.proofs.WellUnits.{Units1, units-at, units-insert, un
 use Rattle.history.proofs.Targets.{took-few}
 use Rattle.history.proofs.Valid.{arrived, Store, targets-few, held-length, read-back, is-valid}
 use Rattle.history.proofs.Codes.{edit-code}
+use Rattle.history.proofs.Sound.{fit-snoc}
 
 -- ---- one more held
 
@@ -52,7 +53,7 @@ arrived-snoc : (l : List Held) (x : Held) → arrived (l ++ (x ∷ [])) ≡ arri
 arrived-snoc [] x = refl
 arrived-snoc (y ∷ l) x = ap (λ (z : List Edit). y .edit ∷ z) (arrived-snoc l x)
 
-count-snoc : (l : List Held) (x : Held) (p : ℕ) → heldCount (l ++ (x ∷ [])) p ≡ heldCount l p + cond (eqb (x .edit .id .peer) p) (size (x .edit)) 0
+pub count-snoc : (l : List Held) (x : Held) (p : ℕ) → heldCount (l ++ (x ∷ [])) p ≡ heldCount l p + cond (eqb (x .edit .id .peer) p) (size (x .edit)) 0
 unfolding heldCount
 count-snoc [] x p = go (eqb (x .edit .id .peer) p)
   where
@@ -68,13 +69,6 @@ count-snoc (y ∷ l) x p = go (eqb (y .edit .id .peer) p) (count-snoc l x p)
         → cond b (size (y .edit) + heldCount (l ++ (x ∷ [])) p) (heldCount (l ++ (x ∷ [])) p) ≡ cond b (size (y .edit) + heldCount l p) (heldCount l p) + cond (eqb (x .edit .id .peer) p) (size (x .edit)) 0
     go true ih = omega arith
     go false ih = ih
-
-fit-snoc : (b l : List Held) (x : Held) → editsFit b l ≡ true → editCode (b ++ l) (x .edit) ≡ 0 → editsFit b (l ++ (x ∷ [])) ≡ true
-unfolding editsFit
-fit-snoc b [] x h e = ap (λ (k : ℕ). eqb k 0 && true) (ap (λ (z : List Held). editCode z (x .edit)) (sym (append-nil b)) ∙ e)
-fit-snoc b (y ∷ l) x h e =
-    let t = and-eq-true-iff (eqb (editCode b (y .edit)) 0) (editsFit (b ++ (y ∷ [])) l) .0 h in
-    ap₂ _&&_ (t .0) (fit-snoc (b ++ (y ∷ [])) l x (t .1) (ap (λ (z : List Held). editCode z (x .edit)) (append-assoc b (y ∷ []) l) ∙ e))
 
 -- ---- lengths
 

@@ -63,6 +63,7 @@ pub enum Found {
     Nothing,
 }
 
+// The row and the unit of it that have the id, of the n rows lent.
 pub fn find_elem(s: &[u8], n: usize, o: OptId) -> Found
     requires { ⌜ n * 72 ≤ length (now s) ⌝ }
     ensures { λ r. ⌜ r ≡ findIn (rows n (now (s .entry))) o 0 ⌝ }

@@ -56,6 +56,7 @@ pub enum Right {
     Absent,
 }
 
+// What one row tells of the parent right o of a unit whose origin left is x. The row must be well formed: else its ids and its length say nothing.
 pub fn right_in(row: FugueSpan, x: OptId, o: OptId) -> Right
     requires { ⌜ spanCode row ≡ 0 ⌝ }
     ensures { λ r. ⌜ r ≡ rightIn row x o ⌝ }

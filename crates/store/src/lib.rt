@@ -189,6 +189,7 @@ pub struct Words {
     pub c8: u32,
 }
 
+// The words of the row at byte b, and back. The row must lie within the slice: who calls knows how many rows are lent.
 pub fn get_words(s: &[u8], b: usize) -> Words
     requires { ⌜ b + 72 ≤ length (now s) ⌝ }
     ensures { λ r. ⌜ r ≡ wordsAt (now (s .entry)) b ⌝ }
@@ -297,6 +298,7 @@ pub fn get_row(s: &[u8], i: usize) -> FugueSpan
     span_of(get_words(s, i * 72))
 }
 
+// Row i becomes the span.
 pub fn put_row(s: &mut [u8], i: usize, x: FugueSpan)
     requires { ⌜ i * 72 + 72 ≤ length (now s) ⌝ }
     ensures { λ _. ⌜ PutRow i x (now (s .entry)) (now (s .exit)) ⌝ }

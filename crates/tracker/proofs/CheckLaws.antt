@@ -24,7 +24,7 @@ use Rattle.history.specs.Edit.{Held}
 use Rattle.history.specs.Arrive.{start}
 use Rattle.history.specs.Valid.{editsFit, editUnits, sameUnits, targetsFit, targetList, valid}
 use Rattle.tracker.specs.Rows.{ranges, targetRoom, tookIn, held, used, editCount, placeholderIn, historyIn, isHistory}
-use Rattle.tracker.proofs.FollowLaws.{length-ranges}
+use Rattle.tracker.proofs.Logs.{length-ranges}
 
 -- ---------------------------------------------------------------- how many edits, and target ranges
 

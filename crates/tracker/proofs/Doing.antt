@@ -1,31 +1,27 @@
 -- what an accepted edit does, step by step
-use Prim.Native.Nat.{ℕ, suc, _+_, _-_, _*_, _<_, _≤_}
-use mathlib.Core.Path.{_≡_, refl, sym, ap, ap₂, subst, _∙_}
-use mathlib.Core.Bool.{Bool, true, false, cond}
+use Prim.Native.Nat.{ℕ, _+_, _-_, _*_, _≤_}
+use mathlib.Core.Path.{_≡_, refl, sym, ap, subst, _∙_}
+use mathlib.Core.Bool.{Bool, cond}
 use mathlib.Core.List.{List, [], _∷_, _++_, append-nil}
 use native.Mathlib.Omega.{arith}
-use lib.Dec.{eqb}
 use lib.ListN.{length, take, drop, length-drop, drop-of-length-le}
 use lib.Seq.{length-take-le, take-append-le, drop-append-le, drop-at, drop-drop}
 use borrow.Author.Tests.{eq-eqb}
 use Rattle.words.specs.Le.{le, bytesOf, put}
 use Rattle.span.specs.declared.span.FugueSpan.{FugueSpan}
-use Rattle.span.specs.Status.{activated}
 use Rattle.span.specs.Units.{expand, join}
 use Rattle.store.specs.Row.{rows}
 use Rattle.store.specs.Header.{count, room, spansOf}
 use Rattle.rope.specs.declared.change.Delete.{Delete}
 use Rattle.rope.specs.Place.{shown}
 use Rattle.rope.specs.Change.{deleteUnits}
-use Rattle.rope.specs.Store.{isState}
-use Rattle.rope.specs.Codes.{kept}
 use Rattle.rope.specs.Spans.{AllOk}
-use Rattle.rope.specs.Reports.{Taken, Report}
+use Rattle.rope.specs.Reports.{Taken}
 use Rattle.rope.specs.Deletions.{Removes}
-use Rattle.rope.specs.Edits.{Written, WrittenIn, EditedIn}
+use Rattle.rope.specs.Edits.{WrittenIn, EditedIn}
 use Rattle.rope.proofs.WellFormed.{formed-of}
 use Rattle.rope.proofs.States.{part, part-rest}
-use Rattle.rope.proofs.Entering.{state-head, state-rows, state-each, state-fits, state-few, state-formed, rows-are}
+use Rattle.rope.proofs.Entering.{state-head, state-rows, state-fits, state-few, state-formed, rows-are}
 use Rattle.tracker.specs.Rows.{ranges, editIn, held, used, editCount, placeholderIn, EDIT-BYTES}
 use Rattle.tracker.specs.Writes.{Appended}
 use Rattle.tracker.proofs.Appends.{set-count, count-placeholder, count-rows}
@@ -34,6 +30,7 @@ use Rattle.tracker.specs.Arrivals.{Gives, Ranged, Logged}
 use Rattle.tracker.proofs.Logs.{part-of-front}
 use Rattle.tracker.proofs.Checking.{editRows, edit-rows}
 use Rattle.words.proofs.Puts.{drop-put}
+use Rattle.history.proofs.Arriving.{shown-most}
 
 pub edited-written : (code : ℕ) (l : List FugueSpan) (r : ℕ) (s t : List ℕ) → EditedIn code l r s t → code ≡ 0 → WrittenIn l s t
 edited-written code l r s t d z =
@@ -46,15 +43,6 @@ edited-written code l r s t d z =
 pub ranged-none : (had : ℕ) (t : List ℕ) → Ranged [] had 0 t t
 unfolding ranges
 ranged-none had t = record { ranges = refl; front = refl; past = refl }
-
-shown-most : (l : List FugueSpan) → shown l ≤ length l
-unfolding shown
-shown-most [] = omega arith
-shown-most (u ∷ l) = go (activated (u .status)) (shown-most l)
-  where
-    go : (b : Bool) → shown l ≤ length l → cond b (suc (shown l)) (shown l) ≤ suc (length l)
-    go true k = omega (arith, k)
-    go false k = omega (arith, k)
 
 -- a delete of a store
 module _ (s t : List ℕ) (had : ℕ) (d : Delete) (g : Gives s t had d) where

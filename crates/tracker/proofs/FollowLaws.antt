@@ -32,6 +32,7 @@ use Rattle.history.specs.Valid.{total}
 use Rattle.tracker.specs.Rows.{rangeIn, ranges}
 use Rattle.tracker.specs.Follow.{idsIn, idsOf, inOrder, idsPast, unitsPast, runsInto, wellRanges, Walks}
 use Rattle.tracker.proofs.TargetsLaws.{memb, memb-units, Well, well-cons}
+use Rattle.tracker.proofs.Logs.{length-ranges}
 
 -- ---------------------------------------------------------------- ids in order
 
@@ -209,11 +210,6 @@ range-drop (suc m) t (suc j) h =
 
     rest : (l : List Range) → drop (j + 1) l ≡ drop (suc j + 1) (rangeIn t ∷ l)
     rest l = ap (λ (n : ℕ). drop n l) (add-one j) ∙ sym (ap (λ (n : ℕ). drop n (rangeIn t ∷ l)) (add-one (suc j)))
-
-pub length-ranges : (m : ℕ) (t : List ℕ) → length (ranges m t) ≡ m
-unfolding ranges
-length-ranges zero t = refl
-length-ranges (suc m) t = ap suc (length-ranges m (drop 16 t))
 
 range-none : (m : ℕ) (t : List ℕ) (j : ℕ) → m ≤ j → drop j (ranges m t) ≡ []
 range-none m t j h = drop-of-length-le (ranges m t) {i = j} (rw (length-ranges m t) h)

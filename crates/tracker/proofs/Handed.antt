@@ -13,11 +13,10 @@ use lib.Signed.{leZ}
 use mir.Syntax.{w32}
 use mir.Val.{SFits}
 use mir.Facts.{toZ-ofZ}
-use borrow.Author.Tests.{eqb-true, eq-eqb, leb-true, le-leb}
+use borrow.Author.Tests.{eqb-true, eq-eqb, leb-true}
 use Rattle.span.specs.Ids.{UNKNOWN-PEER, roomOf, roomOpt}
 use Rattle.span.proofs.IdsLaws.{Room, roomy}
 use Rattle.store.specs.Row.{bits32}
-use Rattle.store.specs.Limits.{PEERS}
 use Rattle.rope.specs.Lists.{every}
 use Rattle.history.specs.Edit.{Count, Version, Act, Insert, Delete, Edit, size, Held, History}
 use Rattle.history.specs.Version.{number, heldCount, rising, isHeld, named}
@@ -28,28 +27,14 @@ use Rattle.history.specs.Tree.{sortRank}
 use Rattle.history.specs.Demand.{InSet, WellFormedSet, Inside, Limits, ArrivalOrder, Accepted, arriveAll, wholeOf}
 use Rattle.history.proofs.Demand.{demand3}
 use Rattle.history.proofs.Codes.{every-in}
-use Rattle.history.proofs.Pairs.{pairs-most}
 use Rattle.history.proofs.Sound.{sound-of, EditOk, edit-ok}
 use Rattle.history.proofs.ArriveValid.{ArriveOk, arrive-ok}
 use Rattle.tracker.specs.Rows.{toAct, broken}
-use Rattle.tracker.specs.Entries.{zipped, versionOf, shortOf}
+use Rattle.tracker.specs.Entries.{zipped, versionOf}
 use Rattle.tracker.specs.Calls.{doesOf, peersOf, countsOf, handed}
+use Rattle.history.proofs.Stored.{count-snoc}
 
 -- ---- what is held of a peer is below 2^31
-
-count-snoc : (l : List Held) (x : Held) (p : ℕ) → heldCount (l ++ (x ∷ [])) p ≡ heldCount l p + cond (eqb (x .edit .id .peer) p) (size (x .edit)) 0
-unfolding heldCount
-count-snoc [] x p = go (eqb (x .edit .id .peer) p)
-  where
-    go : (b : Bool) → cond b (size (x .edit) + 0) 0 ≡ 0 + cond b (size (x .edit)) 0
-    go true = omega arith
-    go false = omega arith
-count-snoc (y ∷ l) x p = go (eqb (y .edit .id .peer) p) (count-snoc l x p)
-  where
-    go : (b : Bool) → heldCount (l ++ (x ∷ [])) p ≡ heldCount l p + cond (eqb (x .edit .id .peer) p) (size (x .edit)) 0
-        → cond b (size (y .edit) + heldCount (l ++ (x ∷ [])) p) (heldCount (l ++ (x ∷ [])) p) ≡ cond b (size (y .edit) + heldCount l p) (heldCount l p) + cond (eqb (x .edit .id .peer) p) (size (x .edit)) 0
-    go true ih = omega arith
-    go false ih = ih
 
 one-more : (l : List Held) (x : Held) → editCode l (x .edit) ≡ 0 → (p : ℕ) → heldCount l p ≤ 2147483647 → heldCount (l ++ (x ∷ [])) p ≤ 2147483647
 unfolding roomOpt
@@ -94,10 +79,6 @@ module _ (l : List Held) (v : Version) (h : editsFit [] l ≡ true) (e : named l
   columns-version = ap (λ (b : Bool). cond b (zipped (peersOf v) (countsOf v)) broken) (eq-eqb (length (peersOf v)) (length (countsOf v)) (length-map v (λ (k : Count). k .peer) ∙ sym (length-map v (λ (k : Count). bits32 (k .many)))))
       ∙ zip-back v (λ (k : Count) (m : List·Memᴰ k v). fit (k .many) (heldCount l (k .peer)) (every-in (isHeld l) v (and-eq-true-iff (rising v) (every (isHeld l) v) .0 e .1) k m) (held-most [] l h (k .peer) (omega arith)))
 
-  pub columns-short : shortOf (peersOf v) (countsOf v) ≡ v
-  unfolding shortOf
-  columns-short = ap (λ (b : Bool). cond b (versionOf (peersOf v) (countsOf v)) broken) (le-leb (length (peersOf v)) PEERS (omega (arith, length-map v (λ (k : Count). k .peer), pairs-most l v h e))) ∙ columns-version
-
 -- ---- an edit that is accepted, and a version that is
 
 act-back : (a : Act) → toAct (doesOf a) ≡ a
@@ -109,7 +90,7 @@ module _ (spans targets : ℕ) (h : History) where
   edit-handed x c =
       let ok : ArriveOk spans targets h x = arrive-ok spans targets h x c in
       ap₂ (λ (a : Act) (v : Version). record { id = x .id; at = x .at; act = a; context = v }) (act-back (x .act))
-      (columns-short (h .held) (x .context) (sound-of spans targets h (ok .valid) .fit) (edit-ok (h .held) x (ok .edit) .named))
+      (columns-version (h .held) (x .context) (sound-of spans targets h (ok .valid) .fit) (edit-ok (h .held) x (ok .edit) .named))
 
   two-back : (a b : Bool) (k : ℕ) → _≡_ {A = ℕ} (cond a (cond b k 6) 15) 0 → (a ≡ true) × (b ≡ true)
   two-back true true k e = (refl, refl)

@@ -1,8 +1,8 @@
 -- what the edits held say, read edit by edit
 use Prim.Native.Nat.{ℕ, suc, _+_, _-_, _*_, _<_, _≤_}
 use mathlib.Core.Path.{_≡_, refl, sym, ap, ap₂, _∙_}
-use mathlib.Core.Bool.{Bool, true, false, not, _&&_, _||_, cond, and-eq-true-iff}
-use mathlib.Core.List.{List, [], _∷_, _++_, append-nil, append-assoc}
+use mathlib.Core.Bool.{Bool, true, false, not, _&&_, _||_, cond}
+use mathlib.Core.List.{List, []}
 use native.Mathlib.Omega.{arith}
 use native.Mathlib.Nat.{zero-add}
 use lib.Dec.{ltb, leb, eqb}
@@ -28,6 +28,7 @@ use Rattle.tracker.specs.Rows.{toAct, toEdit, pairs, pairsIn, contextIn,
 use Rattle.tracker.specs.Refused.{from, actCode, contextCode}
 use Rattle.tracker.specs.Last.{past, lastFor, closedLast}
 use Rattle.tracker.proofs.Logs.{heldAt, held-turn, held-one}
+use Rattle.history.proofs.Sound.{fit-snoc}
 
 -- ---------------------------------------------------------------- numbers
 
@@ -227,14 +228,6 @@ one-at-most l p r e = go (hasPeer l p) e
     go : (b : Bool) → r ≡ cond b 0 1 → r ≤ 1
     go true e = omega (arith, e)
     go false e = omega (arith, e)
-
--- one more edit that fits
-fit-snoc : (b l : List Held) (x : Held) → editsFit b l ≡ true → editCode (b ++ l) (x .edit) ≡ 0 → editsFit b (l ++ (x ∷ [])) ≡ true
-unfolding editsFit
-fit-snoc b [] x h e = ap (λ (k : ℕ). eqb k 0 && true) (ap (λ (z : List Held). editCode z (x .edit)) (sym (append-nil b)) ∙ e)
-fit-snoc b (y ∷ l) x h e =
-    let t = and-eq-true-iff (eqb (editCode b (y .edit)) 0) (editsFit (b ++ (y ∷ [])) l) .0 h in
-    ap₂ _&&_ (t .0) (fit-snoc (b ++ (y ∷ [])) l x (t .1) (ap (λ (z : List Held). editCode z (x .edit)) (append-assoc b (y ∷ []) l) ∙ e))
 
 pub fit-none : (e t : List ℕ) → editsFit [] (held 0 e t) ≡ true
 unfolding held editsFit

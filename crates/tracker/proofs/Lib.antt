@@ -56,3 +56,5 @@ pub mod Deltaing
 pub mod Batching
 pub mod Entered
 pub mod Longer
+pub mod Roomy
+pub mod Ends

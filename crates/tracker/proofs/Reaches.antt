@@ -1,7 +1,7 @@
 -- How far the tests on a unit's id stay the same: one range, the ranges of an edit, the edits, a version. Assumes nothing.
 use Prim.Native.Nat.{ℕ, suc, _+_, _-_, _*_, _≤_, _<_, min}
 use mathlib.Core.Path.{_≡_, refl, sym, ap, ap₂, _∙_}
-use mathlib.Core.Bool.{Bool, true, false, not, _&&_, _||_, cond}
+use mathlib.Core.Bool.{Bool, true, false, not, _&&_, _||_, cond, and-false}
 use mathlib.Core.List.{List, _∷_}
 use native.Mathlib.Omega.{arith}
 use lib.Dec.{ltb, leb, eqb}
@@ -199,6 +199,10 @@ module _ (t : List ℕ) (at k peer c most : ℕ) where
 
 -- ---------------------------------------------------------------- one edit
 
+not-hit : (a b : Bool) → (not a && b) ≡ true → a ≡ false
+not-hit true b e = sym e
+not-hit false b e = refl
+
 module _ (v : Version) (e : List ℕ) (i : ℕ) (t : List ℕ) (at peer c most : ℕ) where
   pub edit-in : below v (editIn (drop (i * 256) e) .id) ≡ true → (k : ℕ) → k ≡ tookIn (drop (i * 256) e) → (r : Found)
       → Same (λ (j : ℕ). inRanges (unitId peer (c + j)) (ranges k (drop (at * 16) t))) most r
@@ -207,6 +211,18 @@ module _ (v : Version) (e : List ℕ) (i : ℕ) (t : List ℕ) (at peer c most :
   edit-in b k q r =
       same-by (λ (j : ℕ). editTakes v e i t at (unitId peer (c + j))) (λ (j : ℕ). inRanges (unitId peer (c + j)) (ranges k (drop (at * 16) t))) most r
       (λ j. rw b (ap (λ (n : ℕ). inRanges (unitId peer (c + j)) (ranges n (drop (at * 16) t))) (sym q)))
+
+  -- what took none of the units took none in the version
+  pub edit-none : (k : ℕ) → k ≡ tookIn (drop (i * 256) e) → (r : Found) → (not (r .hit) && eqb (r .len) most) ≡ true → Same (λ (j : ℕ). inRanges (unitId peer (c + j)) (ranges k (drop (at * 16) t))) most r
+      → Same (λ (j : ℕ). editTakes v e i t at (unitId peer (c + j))) most r
+  unfolding editTakes
+  edit-none k q r y s =
+      let z : r .hit ≡ false = not-hit (r .hit) (eqb (r .len) most) y in
+      record {
+        some = s .some;
+        few = s .few;
+        same = λ j l. ap (λ (b : Bool). below v (editIn (drop (i * 256) e) .id) && b) (ap (λ (n : ℕ). inRanges (unitId peer (c + j)) (ranges n (drop (at * 16) t))) (sym q) ∙ s .same j l ∙ z) ∙ and-false (below v (editIn (drop (i * 256) e) .id)) ∙ sym z;
+      }
 
   pub edit-out : 0 < most → below v (editIn (drop (i * 256) e) .id) ≡ false
       → Same (λ (j : ℕ). editTakes v e i t at (unitId peer (c + j))) most (record { hit = false; len = most })

@@ -24,7 +24,8 @@ use Rattle.history.specs.Edit.{Version, Held}
 use Rattle.tracker.specs.Looks.{seen, Piece}
 use Rattle.tracker.specs.Restate.{bareSpan, bareUnits, AllBare, Fits, Grown, Refine}
 use Rattle.tracker.proofs.Cuts.{join-more}
-use Rattle.tracker.proofs.Sights.{seen-append, units-seen, seen-bare, bare-join, bare-few, row-bound}
+use Rattle.tracker.proofs.Sights.{units-seen, seen-bare, bare-join, bare-few, row-bound}
+use Rattle.tracker.proofs.Nexts.{seen-append}
 
 take-units : (c : ℕ) (us : List FugueSpan) → AllUnits us → AllUnits (take c us)
 unfolding AllUnits

@@ -1,8 +1,8 @@
 -- what refuses an edit at its context, test by test
-use Prim.Native.Nat.{ℕ, suc, _+_, _<_, _≤_}
-use mathlib.Core.Path.{_≡_, refl, sym, ap, _∙_}
-use mathlib.Core.Bool.{Bool, true, false, _&&_, cond}
-use mathlib.Core.List.{List, [], _∷_}
+use Prim.Native.Nat.{ℕ, _+_, _<_, _≤_}
+use mathlib.Core.Path.{_≡_, refl, sym, ap, ap₂, _∙_}
+use mathlib.Core.Bool.{Bool, true, false, _&&_}
+use mathlib.Core.List.{List}
 use native.Mathlib.Omega.{arith}
 use lib.Dec.{leb, ltb}
 use lib.ListN.{length, length-map}
@@ -18,11 +18,11 @@ use Rattle.rope.specs.Codes.{unless}
 use Rattle.store.specs.Row.{rows}
 use Rattle.tracker.specs.Rows.{pairs, held}
 use Rattle.tracker.specs.Looks.{unitSeen, seen}
-use Rattle.tracker.specs.Arrivals.{unitsSeen, insertRest, deleteRest, Deleting}
-use Rattle.span.specs.Status.{activated}
+use Rattle.tracker.specs.Arrivals.{unitsSeen, insertFits, insertRest, deleteFits, deleteRest, Deleting}
 use Rattle.rope.specs.Pieces.{CanDelete}
 use Rattle.rope.proofs.WellFormed.{formed-of}
 use Rattle.tracker.specs.Targets.{targetsOf}
+use Rattle.history.proofs.Arriving.{shown-most}
 
 -- as many units are seen as there are
 pub seen-length : (n : ℕ) (s : List ℕ) (h : ℕ) (e t : List ℕ) (m : ℕ) (v : List ℕ) → length (unitsSeen n s h e t m v) ≡ length (expand (rows n s))
@@ -46,22 +46,12 @@ module _ (most h : ℕ) (us : List FugueSpan) (at : ℕ) (x : FugueSpan) where
     pub insert-units : UNITS < length us + lenSpan x → 10 ≡ insertRest most h us at x
     insert-units m = sym (insert-by true true false _ _ (le-leb at (shown us) l) (lt-ltb h EDITS k) (lt-leb (length us + lenSpan x) UNITS m) refl refl)
 
-    module _ (m : length us + lenSpan x ≤ UNITS) where
-      pub insert-full : most < length (join us) → 10 ≡ insertRest most h us at x
-      insert-full n = sym (insert-by true true true false _ (le-leb at (shown us) l) (lt-ltb h EDITS k) (le-leb (length us + lenSpan x) UNITS m) (lt-leb (length (join us)) most n) refl)
-
-      pub insert-last : length (join us) ≤ most → (f : Bool) → leb (length (join (insertUnits at x us))) most ≡ f → insertRest most h us at x ≡ unless f 10 0
-      insert-last n f e = insert-by true true true true f (le-leb at (shown us) l) (lt-ltb h EDITS k) (le-leb (length us + lenSpan x) UNITS m) (le-leb (length (join us)) most n) e
-
--- as many units are visible as there are, at the most
-shown-most : (l : List FugueSpan) → shown l ≤ length l
-unfolding shown
-shown-most [] = omega arith
-shown-most (u ∷ l) = go (activated (u .status)) (shown-most l)
-  where
-    go : (b : Bool) → shown l ≤ length l → cond b (suc (shown l)) (shown l) ≤ suc (length l)
-    go true k = omega (arith, k)
-    go false k = omega (arith, k)
+    -- what is left is whether it fits the rows
+    pub insert-rows : length us + lenSpan x ≤ UNITS → (f : Bool) → insertFits most us at x ≡ f → insertRest most h us at x ≡ unless f 10 0
+    unfolding insertFits fits
+    insert-rows m f e =
+        insert-by true true true _ _ (le-leb at (shown us) l) (lt-ltb h EDITS k) (le-leb (length us + lenSpan x) UNITS m) refl refl
+        ∙ ap (λ (b : Bool). unless b 10 0) e
 
 -- a delete within the visible list can be made
 pub can-delete : (n : ℕ) (s : List ℕ) (h : ℕ) (e t : List ℕ) (m : ℕ) (v : List ℕ) (d : Delete) → Deleting n s h e t m v d → d .at + d .len ≤ shown (unitsSeen n s h e t m v) → CanDelete d
@@ -88,16 +78,13 @@ module _ (most places h had : ℕ) (us : List FugueSpan) (d : Delete) where
   delete-9 l k = sym (delete-by true false _ _ _ (le-leb (d .at + d .len) (shown us) l) (le-ltb h EDITS k) refl refl refl)
 
   module _ (l : d .at + d .len ≤ shown us) (k : h < EDITS) where
-    pub delete-full : most < length (join us) → 10 ≡ deleteRest most places h had us d
-    delete-full n = sym (delete-by true true false _ _ (le-leb (d .at + d .len) (shown us) l) (lt-ltb h EDITS k) (lt-leb (length (join us)) most n) refl refl)
+    rows-by : (b c g : Bool) → (b && (c && g)) ≡ ((b && c) && g)
+    rows-by true c g = refl
+    rows-by false c g = refl
 
-    module _ (n : length (join us) ≤ most) where
-      pub delete-after : most < length gone → 10 ≡ deleteRest most places h had us d
-      delete-after m = sym (delete-by true true true false _ (le-leb (d .at + d .len) (shown us) l) (lt-ltb h EDITS k) (le-leb (length (join us)) most n) (lt-leb (length gone) most m) refl)
-
-      module _ (m : length gone ≤ most) where
-        pub delete-ranges : places < had + length (targetsOf d us) → 10 ≡ deleteRest most places h had us d
-        delete-ranges q = sym (delete-by true true true true false (le-leb (d .at + d .len) (shown us) l) (lt-ltb h EDITS k) (le-leb (length (join us)) most n) (le-leb (length gone) most m) (lt-leb (had + length (targetsOf d us)) places q))
-
-        pub delete-0 : had + length (targetsOf d us) ≤ places → 0 ≡ deleteRest most places h had us d
-        delete-0 q = sym (delete-by true true true true true (le-leb (d .at + d .len) (shown us) l) (lt-ltb h EDITS k) (le-leb (length (join us)) most n) (le-leb (length gone) most m) (le-leb (had + length (targetsOf d us)) places q))
+    -- what is left is whether it fits the rows, and its target ranges the targets
+    pub delete-rows : (f g : Bool) → deleteFits most us d ≡ f → leb (had + length (targetsOf d us)) places ≡ g → deleteRest most places h had us d ≡ unless (f && g) 10 0
+    unfolding deleteFits fits
+    delete-rows f g ef eg =
+        delete-by true true _ _ _ (le-leb (d .at + d .len) (shown us) l) (lt-ltb h EDITS k) refl refl refl
+        ∙ ap (λ (b : Bool). unless b 10 0) (rows-by (leb (length (join us)) most) (leb (length gone) most) (leb (had + length (targetsOf d us)) places) ∙ ap₂ _&&_ ef eg)

@@ -22,6 +22,7 @@ use Rattle.tracker.specs.Looks.{unitSeen, seen}
 use Rattle.tracker.specs.Restate.{bareSpan, bareUnits, AllBare}
 use Rattle.tracker.proofs.Bares.{bare-ok, bare-append, bare-span}
 use Rattle.tracker.proofs.Cuts.{breaks, cuts, join-cuts, cuts-mid}
+use Rattle.tracker.proofs.Nexts.{seen-append}
 
 -- ---- without statuses
 
@@ -93,11 +94,6 @@ ends (u ∷ us) h = ends-of u us
 -- ---- at a version
 
 module _ (both : Bool) (a b : Version) (held : List Held) where
-  pub seen-append : (A B : List FugueSpan) → seen both a b held (A ++ B) ≡ seen both a b held A ++ seen both a b held B
-  unfolding seen
-  seen-append [] B = refl
-  seen-append (u ∷ A) B = ap (λ (l : List FugueSpan). unitSeen both a b held u ∷ l) (seen-append A B)
-
   ok-seen : (u : FugueSpan) → spanCode u ≡ 0 → spanCode (unitSeen both a b held u) ≡ 0
   unfolding unitSeen
   ok-seen u e = go both
@@ -211,11 +207,11 @@ module _ (both : Bool) (a b : Version) (held : List Held) where
 
     up-to : P ++ S (unitsOf r) ≡ (P ++ S A) ++ unitSeen both a b held z ∷ []
     unfolding seen
-    up-to = ap (λ (us : List FugueSpan). P ++ us) (ap S (split .is) ∙ seen-append A (z ∷ [])) ∙ sym (append-assoc P (S A) (unitSeen both a b held z ∷ []))
+    up-to = ap (λ (us : List FugueSpan). P ++ us) (ap S (split .is) ∙ seen-append both a b held A (z ∷ [])) ∙ sym (append-assoc P (S A) (unitSeen both a b held z ∷ []))
 
     together : P ++ S (expand (r ∷ D)) ≡ (P ++ S A) ++ unitSeen both a b held z ∷ S (expand D)
     unfolding seen
-    together = ap (λ (us : List FugueSpan). P ++ us) (ap S whole ∙ seen-append A (z ∷ expand D)) ∙ sym (append-assoc P (S A) (unitSeen both a b held z ∷ S (expand D)))
+    together = ap (λ (us : List FugueSpan). P ++ us) (ap S whole ∙ seen-append both a b held A (z ∷ expand D)) ∙ sym (append-assoc P (S A) (unitSeen both a b held z ∷ S (expand D)))
 
     pub row-bound : length (join (P ++ S (unitsOf r))) + length D ≤ length (join (P ++ S (expand (r ∷ D))))
     unfolding seen

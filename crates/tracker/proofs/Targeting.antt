@@ -39,6 +39,7 @@ use Rattle.tracker.specs.declared.row.Target.{Target}
 use Rattle.tracker.specs.Rows.{toRange, rangeIn, ranges, rangeBytes}
 use Rattle.tracker.specs.Targets.{targetsOf, addRange, addAll, partRange, tookRanges, AllRoom, Adds, Added, Wrote}
 use Rattle.tracker.proofs.Ranged.{part-some, part-none, add-append, took-law}
+use Rattle.tracker.proofs.Logs.{length-ranges}
 
 -- ---- ranges by their place
 
@@ -64,11 +65,6 @@ unfolding tab
 tab-same f g j zero h = refl
 tab-same f g j (suc n) h =
     ap₂ (λ (x : Range) (l : List Range). x ∷ l) (h j (omega arith)) (tab-same f g (suc j) n (λ i k. h i (omega arith)))
-
-pub length-ranges : (k : ℕ) (t : List ℕ) → length (ranges k t) ≡ k
-unfolding ranges
-length-ranges zero t = refl
-length-ranges (suc k) t = ap suc (length-ranges k (drop 16 t))
 
 -- a range whose bytes are those of one elsewhere
 same-range : (s t : List ℕ) (b c : ℕ) → ((o m : ℕ) → o + m ≤ 16 → take m (drop (c + o) t) ≡ take m (drop (b + o) s)) → rangeIn (drop c t) ≡ rangeIn (drop b s)

@@ -36,6 +36,13 @@ use Rattle.tracker.specs.Targets.{targetsOf}
 abbrev pub unitsSeen : ℕ → List ℕ → ℕ → List ℕ → List ℕ → ℕ → List ℕ → List FugueSpan
 unitsSeen n s h e t m v = seen false (pairs m v) (pairs m v) (held h e t) (expand (rows n s))
 
+-- the list fits a room of so many rows, and again with the insert, or after the delete
+unfoldable pub insertFits : ℕ → List FugueSpan → ℕ → FugueSpan → Bool
+insertFits most us at x = fits most (join us) && fits most (join (insertUnits at x us))
+
+unfoldable pub deleteFits : ℕ → List FugueSpan → Delete → Bool
+deleteFits most us d = fits most (join us) && fits most (join (deleteUnits (d .at) (d .len) (d .start) us))
+
 -- what refuses the insert of x among the units us at its context, in a history of h edits: 8, 9, 10
 unfoldable pub insertRest : ℕ → ℕ → List FugueSpan → ℕ → FugueSpan → ℕ
 insertRest most h us at x =

@@ -20,7 +20,7 @@ use Rattle.tracker.specs.declared.row.Head.{Head}
 use Rattle.tracker.specs.declared.row.Does.{Does}
 use Rattle.tracker.specs.declared.row.Does.the-variants as Do
 use Rattle.tracker.specs.Rows.{toEdit, targetRoom, historyIn, isHistory, EDIT-BYTES}
-use Rattle.tracker.specs.Entries.{shortOf, Leaves, arriveNumber, arrived, checkoutNumber, checkedOut}
+use Rattle.tracker.specs.Entries.{versionOf, Leaves, arriveNumber, arrived, checkoutNumber, checkedOut}
 
 -- ---------------------------------------------------------------- the lent buffers
 
@@ -95,7 +95,7 @@ countsOf v = map (λ (k : Count). bits32 (k .many)) v
 
 -- the edit that the entry takes from them
 abbrev pub handed : Edit → Edit
-handed x = toEdit (headOf x) (shortOf (peersOf (x .context)) (countsOf (x .context)))
+handed x = toEdit (headOf x) (versionOf (peersOf (x .context)) (countsOf (x .context)))
 
 -- ---------------------------------------------------------------- calls one after another
 

@@ -10,7 +10,7 @@ ghost use Rattle.history.specs.Checkout.{unitsAt};
 ghost use Rattle.history.specs.Codes.{onUnits};
 ghost use Rattle.history.specs.Run.{arriveRest};
 ghost use Rattle.tracker.specs.Rows.{toEdit, editIn, targetRoom, historyIn, isHistory};
-ghost use Rattle.tracker.specs.Entries.{shortOf, Leaves, arriveNumber, arrived};
+ghost use Rattle.tracker.specs.Entries.{versionOf, Leaves, arriveNumber, arrived};
 use crate::check::check;
 use crate::columns::put_edit;
 use crate::held::fit_code;
@@ -36,7 +36,7 @@ pub fn arrive(
     peers: &[u64],
     counts: &[u32],
 ) -> u8
-    ensures { λ r. ⌜ Leaves (arriveNumber (now (s .entry)) (now (t .entry)) (now (e .entry)) (toEdit x (shortOf (now (peers .entry)) (now (counts .entry))))) (arrived (now (s .entry)) (now (t .entry)) (now (e .entry)) (toEdit x (shortOf (now (peers .entry)) (now (counts .entry))))) r (now (s .entry)) (now (t .entry)) (now (e .entry)) (now (s .exit)) (now (t .exit)) (now (e .exit)) ⌝ }
+    ensures { λ r. ⌜ Leaves (arriveNumber (now (s .entry)) (now (t .entry)) (now (e .entry)) (toEdit x (versionOf (now (peers .entry)) (now (counts .entry))))) (arrived (now (s .entry)) (now (t .entry)) (now (e .entry)) (toEdit x (versionOf (now (peers .entry)) (now (counts .entry))))) r (now (s .entry)) (now (t .entry)) (now (e .entry)) (now (s .exit)) (now (t .exit)) (now (e .exit)) ⌝ }
 {
     if !check(s, t, e) {
         return 15;

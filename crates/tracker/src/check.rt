@@ -13,6 +13,7 @@ ghost use Rattle.history.specs.Arrive.{start};
 ghost use Rattle.history.specs.Valid.{editsFit, editUnits, sameUnits, targetsFit};
 ghost use Rattle.tracker.specs.Rows.{held, used, isHistory};
 use crate::held::edits_fit;
+use crate::open::EDIT_BYTES;
 use crate::row::edit_count;
 use crate::row::placeholder;
 use crate::row::target_room;
@@ -20,6 +21,7 @@ use crate::same::same_units;
 use crate::taken::targets_fit;
 use crate::taken::took_at;
 use store::header;
+use store::limits::EDITS;
 
 // How many target ranges h edits have.
 fn sum_used(e: &[u8], h: usize) -> u64
@@ -53,11 +55,11 @@ fn log_fits(s: &[u8], n: usize, e: &[u8], h: usize, t: &[u8], p: u64) -> bool
 pub fn check(s: &[u8], t: &[u8], e: &[u8]) -> bool
     ensures { λ r. ⌜ r ≡ isHistory (now (s .entry)) (now (t .entry)) (now (e .entry)) ⌝ }
 {
-    if e.len() < 512064 {
+    if e.len() < EDIT_BYTES {
         return false;
     }
     let count = edit_count(e);
-    if 2000 < count {
+    if (EDITS as u64) < count {
         return false;
     }
     let h = count as usize;

@@ -8,6 +8,7 @@ ghost use lib.Dec.{leb, eqb};
 ghost use lib.ListN.{length, drop};
 ghost use Rattle.rope.specs.Lists.{every};
 ghost use Rattle.store.specs.Limits.{PEERS, EDITS};
+ghost use Rattle.store.specs.Row.{bits32};
 ghost use Rattle.history.specs.Edit.{size};
 ghost use Rattle.history.specs.Version.{heldCount, isHeld, named, within, wholeAct, closedFor, closed, versionCode};
 ghost use Rattle.history.specs.Valid.{hasPeer, peerCount, editCode, editsFit};
@@ -21,6 +22,7 @@ use crate::act::counter_is;
 use crate::act::end_of;
 use crate::act::less_than;
 use crate::act::size_of;
+use crate::look::edit_id;
 use crate::row::Does;
 use crate::row::Pair;
 use crate::row::get_head;
@@ -75,6 +77,43 @@ pub fn held_count(e: &[u8], h: usize, peer: u64) -> u64
         i += 1;
     }
     sum
+}
+
+// The counter behind the last of edit i.
+fn end_at(e: &[u8], i: usize) -> u64
+    requires { ⌜ i * 256 + 256 ≤ length (now e) ⌝ }
+    ensures { λ r. ⌜ r ≡ bits32 (editIn (drop (i * 256) (now (e .entry))) .id .counter) + size (editIn (drop (i * 256) (now (e .entry)))) ⌝ }
+{
+    let bits = store::counter_bits(edit_id(e, i));
+    (bits as u64) + (row_size(&e[i * 256..]) as u64)
+}
+
+// The count held for a peer where the edits fit: its last edit ends there. It is looked for from the end.
+fn last_count(e: &[u8], h: usize, peer: u64) -> u64
+    requires { ⌜ (h * 256 ≤ length (now e)) × ((t : List ℕ) → editsFit [] (held h (now e) t) ≡ true) ⌝ }
+    ensures { λ r. ⌜ ((t : List ℕ) → r ≡ heldCount (held h (now (e .entry)) t) peer) ⌝ }
+{
+    let mut i = h;
+    while 0 < i {
+        let k = i - 1;
+        if peer_at(e, k) == peer {
+            return end_at(e, k);
+        }
+        i = k;
+    }
+    0
+}
+
+// The count held for a peer. It is quicker if the edits are known to fit.
+fn count_for(e: &[u8], h: usize, peer: u64, fit: bool) -> u64
+    requires { ⌜ (h * 256 ≤ length (now e)) × (h ≤ EDITS) × (fit ≡ true → (t : List ℕ) → editsFit [] (held h (now e) t) ≡ true) ⌝ }
+    ensures { λ r. ⌜ ((t : List ℕ) → r ≡ heldCount (held h (now (e .entry)) t) peer) ⌝ }
+{
+    if fit {
+        last_count(e, h, peer)
+    } else {
+        held_count(e, h, peer)
+    }
 }
 
 // Whether a peer has edits.
@@ -134,21 +173,21 @@ fn peer_fits(e: &[u8], h: usize, peer: u64) -> bool
 
 // ---------------------------------------------------------------- versions
 
-fn pair_held(e: &[u8], h: usize, k: Pair) -> bool
-    requires { ⌜ (h * 256 ≤ length (now e)) × (h ≤ EDITS) ⌝ }
+fn pair_held(e: &[u8], h: usize, k: Pair, fit: bool) -> bool
+    requires { ⌜ (h * 256 ≤ length (now e)) × (h ≤ EDITS) × (fit ≡ true → (t : List ℕ) → editsFit [] (held h (now e) t) ≡ true) ⌝ }
     ensures { λ r. ⌜ ((t : List ℕ) → r ≡ isHeld (held h (now (e .entry)) t) (toCount k)) ⌝ }
 {
-    let most = held_count(e, h, k.peer);
+    let most = count_for(e, h, k.peer, fit);
     count_held(k, most)
 }
 
-fn pairs_held(e: &[u8], h: usize, v: &[u8], m: usize) -> bool
-    requires { ⌜ (h * 256 ≤ length (now e)) × (h ≤ EDITS) × (m * 12 ≤ length (now v)) ⌝ }
+fn pairs_held(e: &[u8], h: usize, v: &[u8], m: usize, fit: bool) -> bool
+    requires { ⌜ (h * 256 ≤ length (now e)) × (h ≤ EDITS) × (m * 12 ≤ length (now v)) × (fit ≡ true → (t : List ℕ) → editsFit [] (held h (now e) t) ≡ true) ⌝ }
     ensures { λ r. ⌜ ((t : List ℕ) → r ≡ every (isHeld (held h (now (e .entry)) t)) (pairs m (now (v .entry)))) ⌝ }
 {
     let mut i = 0;
     while i < m {
-        if !pair_held(e, h, get_pair(v, i)) {
+        if !pair_held(e, h, get_pair(v, i), fit) {
             return false;
         }
         i += 1;
@@ -156,16 +195,23 @@ fn pairs_held(e: &[u8], h: usize, v: &[u8], m: usize) -> bool
     true
 }
 
-// 6: a version of peers that rise and counts that are held.
+// 6: a version of peers that rise and counts that are held. It is quicker if the edits are known to fit.
+fn named_by(e: &[u8], h: usize, v: &[u8], m: usize, fit: bool) -> bool
+    requires { ⌜ (h * 256 ≤ length (now e)) × (h ≤ EDITS) × (m * 12 ≤ length (now v)) × (fit ≡ true → (t : List ℕ) → editsFit [] (held h (now e) t) ≡ true) ⌝ }
+    ensures { λ r. ⌜ ((t : List ℕ) → r ≡ named (held h (now (e .entry)) t) (pairs m (now (v .entry)))) ⌝ }
+{
+    if rising(v, m) {
+        pairs_held(e, h, v, m, fit)
+    } else {
+        false
+    }
+}
+
 pub fn named(e: &[u8], h: usize, v: &[u8], m: usize) -> bool
     requires { ⌜ (h * 256 ≤ length (now e)) × (h ≤ EDITS) × (m * 12 ≤ length (now v)) ⌝ }
     ensures { λ r. ⌜ ((t : List ℕ) → r ≡ named (held h (now (e .entry)) t) (pairs m (now (v .entry)))) ⌝ }
 {
-    if rising(v, m) {
-        pairs_held(e, h, v, m)
-    } else {
-        false
-    }
+    named_by(e, h, v, m, false)
 }
 
 // Whether a version that covers the first unit of an edit covers all of them, where it is a delete.
@@ -291,7 +337,7 @@ fn pairs_code(e: &[u8], h: usize, v: &[u8], m: usize, id: Id, fit: bool) -> u8
     requires { ⌜ (h * 256 ≤ length (now e)) × (h ≤ EDITS) × (m * 12 ≤ length (now v)) × (fit ≡ true → (t : List ℕ) → editsFit [] (held h (now e) t) ≡ true) ⌝ }
     ensures { λ r. ⌜ ((t : List ℕ) → r ≡ contextCode (held h (now (e .entry)) t) (pairs m (now (v .entry))) id) ⌝ }
 {
-    if named(e, h, v, m) {
+    if named_by(e, h, v, m, fit) {
         let own = count_of(v, m, id.peer);
         if counter_is(id, own as u64) {
             if named_closed(e, h, v, m, fit) { 0 } else { 7 }

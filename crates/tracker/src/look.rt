@@ -3,9 +3,9 @@
 // An id's status is decided by the version's count of its peer and by the target ranges of the edits in the version. Each of these answers alike up to
 // some unit: the reach is cut there. The rows are the entries' to check, and a unit's counter is below 2^31, so no sum here wraps.
 ghost use mathlib.Core.Path.{_≡_};
-ghost use mathlib.Core.Bool.{true, _||_};
+ghost use mathlib.Core.Bool.{true, not, _&&_, _||_};
 ghost use Prim.Native.Nat.{ℕ, _+_, _*_, _≤_, _<_, min};
-ghost use lib.Dec.{ltb};
+ghost use lib.Dec.{ltb, eqb};
 ghost use lib.ListN.{length, drop};
 ghost use mir.Syntax.{w32};
 ghost use mir.Val.{toZ};
@@ -124,7 +124,7 @@ fn ranges_reach(t: &[u8], at: usize, k: usize, peer: u64, c: u32, most: u32) -> 
 }
 
 // The id of the edit in row i, and how many target ranges it has.
-fn edit_id(e: &[u8], i: usize) -> Id
+pub(crate) fn edit_id(e: &[u8], i: usize) -> Id
     requires { ⌜ i * 256 + 256 ≤ length (now e) ⌝ }
     ensures { λ r. ⌜ r ≡ editIn (drop (i * 256) (now (e .entry))) .id ⌝ }
 {
@@ -139,7 +139,15 @@ fn edit_took(e: &[u8], i: usize) -> u32
     words::get_u32(e, i * 256 + 44)
 }
 
-// Whether the edit in row i, whose target ranges begin at range `at`, is in the version and took a unit.
+// Whether none of the units is found.
+fn misses(x: Found, most: u32) -> bool
+    ensures { λ r. ⌜ r ≡ not (x .hit) && eqb (x .len) most ⌝ }
+{
+    if x.hit { false } else { x.len == most }
+}
+
+// Whether the edit in row i, whose target ranges begin at range `at`, is in the version and took a unit. Of an edit that took none of these units, as most
+// did, the version is not asked.
 fn edit_reach(
     e: &[u8],
     i: usize,
@@ -154,10 +162,13 @@ fn edit_reach(
     requires { ⌜ (i * 256 + 256 ≤ length (now e)) × ((at + tookIn (drop (i * 256) (now e))) * 16 ≤ length (now t)) × (m * 12 ≤ length (now v)) × (0 < most) × (c < 2147483648) ⌝ }
     ensures { λ r. ⌜ Same (λ (j : ℕ). editTakes (pairs m (now (v .entry))) (now (e .entry)) i (now (t .entry)) at (unitId peer (c + j))) most r ⌝ }
 {
-    let id = edit_id(e, i);
-    if below(v, m, id) {
-        let took = edit_took(e, i);
-        ranges_reach(t, at, took as usize, peer, c, most)
+    let took = edit_took(e, i);
+    let found = ranges_reach(t, at, took as usize, peer, c, most);
+    if misses(found, most) {
+        return found;
+    }
+    if below(v, m, edit_id(e, i)) {
+        found
     } else {
         Found {
             hit: false,

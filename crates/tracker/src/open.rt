@@ -2,10 +2,11 @@
 ghost use Rattle.tracker.specs.Opens.{openNumber, openWithNumber, Opened};
 use crate::row::put_header;
 use store::header;
+use store::limits::EDITS;
 use store::limits::UNITS;
 
 // The bytes of the edits: a header and 2,000 rows.
-pub const EDIT_BYTES: usize = 512064;
+pub const EDIT_BYTES: usize = 64 + 256 * EDITS;
 
 // Opens an empty history. The answer is 0 or the number of the refusal.
 pub fn open(s: &mut [u8], t: &[u8], e: &mut [u8]) -> u8

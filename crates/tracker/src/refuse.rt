@@ -1,9 +1,16 @@
 // What refuses an edit in a well formed history: all of it is asked before anything is written.
 ghost use mathlib.Core.Path.{_≡_};
-ghost use Prim.Native.Nat.{_≤_};
+ghost use Prim.Native.Nat.{_+_, _≤_};
+ghost use lib.Dec.{leb};
+ghost use lib.ListN.{length};
+ghost use Rattle.span.specs.Span.{newSpan, lenSpan};
+ghost use Rattle.span.specs.Units.{expand};
+ghost use Rattle.store.specs.Row.{rows};
+ghost use Rattle.rope.specs.Place.{shown};
+ghost use Rattle.rope.specs.Pieces.{CanDelete};
 ghost use Rattle.tracker.specs.Rows.{used};
-ghost use Rattle.tracker.specs.Arrivals.{unitsSeen, insertRest, deleteRest, doesRest, Inserting, Deleting, Acting};
-ghost use Rattle.span.specs.Span.{newSpan};
+ghost use Rattle.tracker.specs.Targets.{targetsOf};
+ghost use Rattle.tracker.specs.Arrivals.{unitsSeen, insertFits, insertRest, deleteFits, deleteRest, doesRest, Inserting, Deleting, Acting};
 use crate::fits::insert_fits;
 use crate::row::Does;
 use crate::row::Head;
@@ -21,6 +28,33 @@ use span::span::FugueSpan;
 use span::span::SpanAnswer;
 use store::limits::EDITS;
 use store::limits::UNITS;
+
+// Whether the list at a version fits the room, and again with an insert. A list has no more rows than units: with room for these nothing is counted.
+fn insert_in_rows(
+    s: &[u8],
+    n: usize,
+    e: &[u8],
+    h: usize,
+    t: &[u8],
+    v: &[u8],
+    m: usize,
+    at: u32,
+    x: FugueSpan,
+    many: usize,
+    most: usize,
+) -> bool
+    requires { ⌜ Inserting n (now s) h (now e) (now t) m (now v) x × (at ≤ shown (unitsSeen n (now s) h (now e) (now t) m (now v))) × (many ≡ length (expand (rows n (now s))) + lenSpan x) ⌝ }
+    ensures { λ r. ⌜ r ≡ insertFits most (unitsSeen n (now (s .entry)) h (now (e .entry)) (now (t .entry)) m (now (v .entry))) at x ⌝ }
+{
+    if many <= most {
+        return true;
+    }
+    let k = count_seen(s, n, e, h, t, v, m, v, m, false);
+    if most < k {
+        return false;
+    }
+    insert_fits(s, n, e, h, t, v, m, at, x, k, most)
+}
 
 // An insert at its context: 8, 9, 10.
 pub fn refuse_insert(
@@ -44,17 +78,59 @@ pub fn refuse_insert(
     if EDITS <= h {
         return 9;
     }
-    if UNITS < units(s, n) + len_of(x) {
+    let many = units(s, n) + len_of(x);
+    if UNITS < many {
         return 10;
     }
-    let k = count_seen(s, n, e, h, t, v, m, v, m, false);
-    if most < k {
-        return 10;
-    }
-    if !insert_fits(s, n, e, h, t, v, m, at, x, k, most) {
+    if !insert_in_rows(s, n, e, h, t, v, m, at, x, many, most) {
         return 10;
     }
     0
+}
+
+// The same of a delete, which makes no units.
+fn delete_in_rows(
+    s: &[u8],
+    n: usize,
+    e: &[u8],
+    h: usize,
+    t: &[u8],
+    v: &[u8],
+    m: usize,
+    d: Delete,
+    most: usize,
+) -> bool
+    requires { ⌜ Deleting n (now s) h (now e) (now t) m (now v) d × CanDelete d ⌝ }
+    ensures { λ r. ⌜ r ≡ deleteFits most (unitsSeen n (now (s .entry)) h (now (e .entry)) (now (t .entry)) m (now (v .entry))) d ⌝ }
+{
+    if units(s, n) <= most {
+        return true;
+    }
+    if most < count_seen(s, n, e, h, t, v, m, v, m, false) {
+        return false;
+    }
+    count_deleted(s, n, e, h, t, v, m, d) <= most
+}
+
+// Whether the target ranges that a delete takes fit the free room. They are no more than the units that it takes.
+fn targets_in_room(
+    s: &[u8],
+    n: usize,
+    e: &[u8],
+    h: usize,
+    t: &[u8],
+    v: &[u8],
+    m: usize,
+    d: Delete,
+    free: usize,
+) -> bool
+    requires { ⌜ Deleting n (now s) h (now e) (now t) m (now v) d × CanDelete d ⌝ }
+    ensures { λ r. ⌜ r ≡ leb (length (targetsOf d (unitsSeen n (now (s .entry)) h (now (e .entry)) (now (t .entry)) m (now (v .entry))))) free ⌝ }
+{
+    if d.len as usize <= free {
+        return true;
+    }
+    count_targets(s, n, e, h, t, v, m, d) <= free
 }
 
 // A delete at its context: 8, 9, 10.
@@ -79,14 +155,11 @@ pub fn refuse_delete(
     if EDITS <= h {
         return 9;
     }
-    if most < count_seen(s, n, e, h, t, v, m, v, m, false) {
-        return 10;
-    }
-    if most < count_deleted(s, n, e, h, t, v, m, d) {
+    if !delete_in_rows(s, n, e, h, t, v, m, d, most) {
         return 10;
     }
     let free = places - used_len(e, h);
-    if free < count_targets(s, n, e, h, t, v, m, d) {
+    if !targets_in_room(s, n, e, h, t, v, m, d, free) {
         return 10;
     }
     0

@@ -28,6 +28,7 @@ use span::ids::OptId;
 use span::ids::UNKNOWN_PEER;
 use span::span::FugueSpan;
 use span::span::SpanAnswer;
+use store::limits::UNITS;
 
 // Whether two units have one real id, which is free for the placeholder's.
 fn same_real(u: FugueSpan, v: FugueSpan) -> bool
@@ -245,7 +246,7 @@ pub fn same_units(s: &[u8], n: usize, e: &[u8], h: usize, placeholder: u64) -> b
     requires { ⌜ Stored n (now s) × (h * 256 ≤ length (now e)) × (h ≤ EDITS) × ((t : List ℕ) → editsFit [] (held h (now e) t) ≡ true) ⌝ }
     ensures { λ b. ⌜ ((t : List ℕ) → b ≡ sameUnits (expand (rows n (now (s .entry)))) (start placeholder .list ++ editUnits (held h (now (e .entry)) t))) ⌝ }
 {
-    if 65536 < placeholder {
+    if (UNITS as u64) < placeholder {
         return false;
     }
     if units(s, n) as u64 != placeholder + sum_made(e, h) {

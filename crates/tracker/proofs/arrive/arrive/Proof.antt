@@ -1,5 +1,6 @@
+use Rattle.tracker.proofs.Longer.{arrive-whole}
 use Rattle.tracker.specs.Rows.{toEdit, editIn}
-use Rattle.tracker.specs.Entries.{shortOf, Leaves, arriveNumber, arrived}
+use Rattle.tracker.specs.Entries.{versionOf, Leaves, arriveNumber, arrived}
 use Rattle.history.specs.Edit.{Edit}
 use Rattle.tracker.proofs.Accepting.{arrive-none}
 use borrow.Author.Tests.{not-true, not-false}
@@ -23,7 +24,7 @@ same-length-3 c = search needs
 
 returns : tie.Need-returns
 returns c =
-    let o = (c .before .before .before .before .before .before .before .before .before .before) in let x = o .args in arrive-none (x .s .now) (x .t .now) (x .e .now) (toEdit (x .x) (shortOf (x .peers .now) (x .counts .now))) (sym ((c .before) .check .ensures) ∙ not-true _ (c .if1 .taken))
+    let o = (c .before .before .before .before .before .before .before .before .before .before) in let x = o .args in arrive-none (x .s .now) (x .t .now) (x .e .now) (toEdit (x .x) (versionOf (x .peers .now) (x .counts .now))) (sym ((c .before) .check .ensures) ∙ not-true _ (c .if1 .taken))
 
 slice-aggregate-put-edit : tie.Need-slice-aggregate-put-edit
 slice-aggregate-put-edit c = search needs
@@ -51,7 +52,9 @@ returns-2 : tie.Need-returns-2
 returns-2 c =
     let o = (c .before .before .before .before .before .before .before .before .before .before .before .before .before .before .before .before .before .before .before .before .before .before .before .before) in let x = o .args in
     let f = (c .before .before .before .before .before .before) .arrive-row in
-    subst (λ (q : Edit). Leaves (arriveNumber (x .s .now) (x .t .now) (x .e .now) q) (arrived (x .s .now) (x .t .now) (x .e .now) q) (f .result) (x .s .now) (x .t .now) (x .e .now) (f .last .0) (f .last .1 .0) (f .last .1 .1 .0)) ((c .before .before .before .before .before .before .before .before .before .before .before .before) .put-edit .ensures) (f .ensures)
+    let w = sym ((c .before .before .before .before .before .before .before .before .before .before .before .before .before .before .before) .check .ensures) ∙ not-false _ ((c .before .before .before .before .before .before .before .before .before .before .before .before .before .before) .if1 .left) in
+    arrive-whole (x .s .now) (x .t .now) (x .e .now) w (x .x) (x .peers .now) (x .counts .now) (f .result) (f .last .0) (f .last .1 .0) (f .last .1 .1 .0)
+    (subst (λ (q : Edit). Leaves (arriveNumber (x .s .now) (x .t .now) (x .e .now) q) (arrived (x .s .now) (x .t .now) (x .e .now) q) (f .result) (x .s .now) (x .t .now) (x .e .now) (f .last .0) (f .last .1 .0) (f .last .1 .1 .0)) ((c .before .before .before .before .before .before .before .before .before .before .before .before) .put-edit .ensures) (f .ensures))
 
 pub arrive-spec : {M : Type 1} → statement M
 arrive-spec =

@@ -13,27 +13,21 @@ use Rattle.tracker.proofs.held.edits_fit.Reads as edits-fit-reads
 use Rattle.tracker.proofs.same.same_units.Reads as same-units-reads
 use Rattle.tracker.proofs.taken.targets_fit.Reads as targets-fit-reads
 
--- src/check.rt:43:9
 edits-fit-requires : tie.Need-edits-fit-requires
 edits-fit-requires c κs = search needs
 
--- src/check.rt:44:9
 returns : tie.Need-returns
 returns c = let s = c .before .before .before .before .before in let a = s .args in log-by (rows (a .n) (a .s .now)) (a .p) (held (a .h) (a .e .now) (a .t .now)) false _ _ (sym (c .before .edits-fit .ensures (a .t .now)) ∙ not-true _ (c .if1 .taken)) refl refl
 
--- src/check.rt:46:9
 same-units-requires : tie.Need-same-units-requires
 same-units-requires c κs = let s = c .before .before .before .before .before in (s .pre .0, s .pre .1, s .pre .2, λ t. sym (c .before .edits-fit .ensures t) ∙ not-false _ (c .if1 .left))
 
--- src/check.rt:47:9
 returns-2 : tie.Need-returns-2
 returns-2 c = let f = c .before .before .before in let s = f .before .before .before .before in let a = s .args in log-by (rows (a .n) (a .s .now)) (a .p) (held (a .h) (a .e .now) (a .t .now)) true false _ (sym (f .edits-fit .ensures (a .t .now)) ∙ not-false _ (c .before .before .if1 .left)) (sym (c .before .same-units .ensures (a .t .now)) ∙ not-true _ (c .if2 .taken)) refl
 
--- src/check.rt:49:5
 targets-fit-requires : tie.Need-targets-fit-requires
 targets-fit-requires c κs = search needs
 
--- src/check.rt:39:1
 returns-3 : tie.Need-returns-3
 returns-3 c = let f = c .before .before .before .before in let s = f .before .before .before .before in let a = s .args in log-by (rows (a .n) (a .s .now)) (a .p) (held (a .h) (a .e .now) (a .t .now)) true true _ (sym (f .edits-fit .ensures (a .t .now)) ∙ not-false _ (c .before .before .before .if1 .left)) (sym (c .before .before .same-units .ensures (a .t .now)) ∙ not-false _ (c .before .if2 .left)) (sym (c .targets-fit .ensures))
 

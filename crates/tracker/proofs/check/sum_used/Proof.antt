@@ -14,35 +14,27 @@ Inv-loop e h i₀ sum₀ i sum = Used h e i sum
 abbrev μ-loop : tie.MeasureT-loop
 μ-loop e h i₀ sum₀ i sum = h - i
 
--- src/check.rt:31:5
 loop-holds : tie.Need-loop-holds Inv-loop μ-loop
 loop-holds c = used-start _ _
 
--- src/check.rt:32:16
 took-at-requires : tie.Need-took-at-requires Inv-loop μ-loop
 took-at-requires c κs = let s = c .before .before .before in omega (arith, s .pre .0, c .loop-test .taken)
 
--- src/check.rt:32:16
 cast-sum : tie.Need-cast-sum Inv-loop μ-loop
 cast-sum c = search needs
 
--- src/check.rt:32:9
 add-sum : tie.Need-add-sum Inv-loop μ-loop
 add-sum c = let l = c .before .before .loop in let s = c .before .before .before .before in omega (arith, l .inv .small, l .inv .low, c .before .loop-test .taken, s .pre .1, c .took-at .ok)
 
--- src/check.rt:33:9
 add-i : tie.Need-add-i Inv-loop μ-loop
 add-i c = omega (arith, c .before .loop-test .taken)
 
--- src/check.rt:31:5
 loop-less : tie.Need-loop-less Inv-loop μ-loop
 loop-less c = omega (arith, c .before .loop-test .taken)
 
--- src/check.rt:31:5
 loop-again : tie.Need-loop-again Inv-loop μ-loop
 loop-again c = let l = c .before .before .loop in let s = c .before .before .before .before in let a = s .args in used-turn (a .h) (a .e .now) (l .i) (l .sum) (l .inv) (c .before .loop-test .taken) _ (c .took-at .ensures) (search needs)
 
--- src/check.rt:25:1
 returns : tie.Need-returns Inv-loop μ-loop
 returns c = let l = c .before .loop in let s = c .before .before .before in let a = s .args in used-done (a .h) (a .e .now) (l .i) (l .sum) (l .inv) (c .loop-test .left)
 

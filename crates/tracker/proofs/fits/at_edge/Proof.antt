@@ -4,11 +4,9 @@ use Rattle.tracker.proofs.fits.at_edge.Tie as tie
 use Rattle.tracker.proofs.fits.at_edge.Reads as reads
 use Rattle.tracker.proofs.fits.at_edge.Lts as lts
 
--- src/fits.rt:237:1
 returns : tie.Need-returns
 returns c = let a = c .before .before .args in edge-start (a .n) (a .f) (c .if1 .taken)
 
--- src/fits.rt:237:1
 returns-2 : tie.Need-returns-2
 returns-2 c = let a = c .before .before .before .args in edge-end (a .n) (a .f) (c .before .if1 .left)
 

@@ -21,31 +21,24 @@ Inv-loop s n e h t v m at i₀ from₀ left₀ i from left = Seek (pairs m v) (h
 abbrev μ-loop : tie.MeasureT-loop
 μ-loop s n e h t v m at i₀ from₀ left₀ i from left = length (ahead n s i from)
 
--- src/fits.rt:189:5
 loop-holds : tie.Need-loop-holds Inv-loop μ-loop
 loop-holds c = let e = c .before .before .before .before in let a = e .args in seek-start (pairs (a .m) (a .v .now)) (held (a .h) (a .e .now) (a .t .now)) (a .n) (a .s .now) (e .pre .0 .stored) (a .at) (e .pre .1) (e .pre .2)
 
--- src/fits.rt:190:13
 next-piece-requires : tie.Need-next-piece-requires Inv-loop μ-loop
 next-piece-requires c κs = let e = c .before .before .before .before .before in (e .pre .0, c .loop .inv .place, c .loop .inv .low)
 
--- src/fits.rt:192:13
 activated-len-requires : tie.Need-activated-len-requires Inv-loop μ-loop
 activated-len-requires c κs = tt
 
--- src/fits.rt:194:13
 returns : tie.Need-returns Inv-loop μ-loop
 returns c = let e = c .before .before .before .before .before .before .before .before .before in let a = e .args in let l = c .before .before .before .before .loop in let x = c .before .before .before .next-piece in let g : c .before .activated-len .result ≡ activeLen (x .result .piece) = c .before .activated-len .ensures in seek-found (pairs (a .m) (a .v .now)) (held (a .h) (a .e .now) (a .t .now)) (a .n) (a .s .now) (e .pre .0 .stored) (a .at) (l .i) (l .from) (l .left) (l .inv) (x .result) (x .ensures) (omega (arith, g, c .if1 .taken))
 
--- src/fits.rt:201:9
 sub-left : tie.Need-sub-left Inv-loop μ-loop
 sub-left c = omega (arith, c .if1 .left)
 
--- src/fits.rt:189:5
 loop-less : tie.Need-loop-less Inv-loop μ-loop
 loop-less c = let e = c .before .before .before .before .before .before .before .before .before in let a = e .args in let l = c .before .before .before .before .loop in let x = c .before .before .before .next-piece in next-less false (pairs (a .m) (a .v .now)) (pairs (a .m) (a .v .now)) (held (a .h) (a .e .now) (a .t .now)) (a .n) (a .s .now) (e .pre .0 .stored) (l .i) (l .from) (x .result) (x .ensures)
 
--- src/fits.rt:189:5
 loop-again : tie.Need-loop-again Inv-loop μ-loop
 loop-again c = let e = c .before .before .before .before .before .before .before .before .before in let a = e .args in let l = c .before .before .before .before .loop in let x = c .before .before .before .next-piece in let g : c .before .activated-len .result ≡ activeLen (x .result .piece) = c .before .activated-len .ensures in subst (λ (k : ℕ). Seek (pairs (a .m) (a .v .now)) (held (a .h) (a .e .now) (a .t .now)) (a .n) (a .s .now) (a .at) (x .result .row) (x .result .from) (l .left - k)) (sym g) (seek-on (pairs (a .m) (a .v .now)) (held (a .h) (a .e .now) (a .t .now)) (a .n) (a .s .now) (e .pre .0 .stored) (a .at) (l .i) (l .from) (l .left) (l .inv) (x .result) (x .ensures) (omega (arith, g, c .if1 .left)))
 

@@ -7,11 +7,9 @@ use Rattle.tracker.proofs.fits.future_at.Reads as reads
 use Rattle.tracker.proofs.fits.future_at.Lts as lts
 use Rattle.tracker.proofs.look.status_run.Reads as status-run-reads
 
--- src/fits.rt:43:9
 status-run-requires : tie.Need-status-run-requires
 status-run-requires c κs = search needs
 
--- src/fits.rt:39:1
 returns : tie.Need-returns
 returns c = let a = c .before .before .before .before .before .args in let x = c .before .status-run in future-of (pairs (a .m) (a .v .now)) (held (a .h) (a .e .now) (a .t .now)) (a .id) 1 (x .result) (x .ensures)
 

@@ -11,39 +11,30 @@ use Rattle.tracker.proofs.fits.find_left.Reads as find-left-reads
 use Rattle.tracker.proofs.fits.inside.Reads as inside-reads
 use Rattle.tracker.proofs.fits.joins_left.Reads as joins-left-reads
 
--- src/fits.rt:281:17
 sub-spare : tie.Need-sub-spare
 sub-spare c = search needs
 
--- src/fits.rt:283:9
 returns : tie.Need-returns
 returns c = let e = c .before .before .before .before .before in let a = e .args in fit-two (pairs (a .m) (a .v .now)) (held (a .h) (a .e .now) (a .t .now)) (a .n) (a .s .now) (a .at) (a .x) (a .k) (a .most) (e .pre .0 .stored) (e .pre .1) (omega (arith, c .if1 .taken))
 
--- src/fits.rt:286:9
 returns-2 : tie.Need-returns-2
 returns-2 c = let e = c .before .before .before .before .before .before in let a = e .args in fit-start (pairs (a .m) (a .v .now)) (held (a .h) (a .e .now) (a .t .now)) (a .n) (a .s .now) (a .at) (a .x) (a .k) (a .most) (e .pre .0 .stored) (e .pre .1) (c .if2 .taken)
 
--- src/fits.rt:288:9
 find-left-requires : tie.Need-find-left-requires
 find-left-requires c κs = search needs
 
--- src/fits.rt:290:12
 inside-requires : tie.Need-inside-requires
 inside-requires c κs = search needs
 
--- src/fits.rt:292:9
 joins-left-requires : tie.Need-joins-left-requires
 joins-left-requires c κs = search needs
 
--- src/fits.rt:265:1
 returns-3 : tie.Need-returns-3
 returns-3 c = let e = c .before .before .before .before .before .before .before .before .before .before in let a = e .args in let f = c .before .before .before .find-left in fit-in (pairs (a .m) (a .v .now)) (held (a .h) (a .e .now) (a .t .now)) (a .n) (a .s .now) (a .at) (a .x) (a .k) (a .most) (e .pre .0 .stored) (e .pre .1) (f .result) (f .ensures) (sym (c .before .inside .ensures) ∙ c .if4 .taken) (omega (arith, c .before .before .before .before .before .if1 .left))
 
--- src/fits.rt:265:1
 returns-4 : tie.Need-returns-4
 returns-4 c = let e = c .before .before .before .before .before .before .before .before .before .before in let a = e .args in let f = c .before .before .before .find-left in fit-out (pairs (a .m) (a .v .now)) (held (a .h) (a .e .now) (a .t .now)) (a .n) (a .s .now) (a .at) (a .x) (a .k) (a .most) (e .pre .0 .stored) (e .pre .1) (f .result) (f .ensures) (sym (c .before .inside .ensures) ∙ c .if4 .left) (omega (arith, c .before .before .if3 .taken))
 
--- src/fits.rt:265:1
 returns-5 : tie.Need-returns-5
 returns-5 c = let e = c .before .before .before .before .before .before .before .before .before in let a = e .args in let f = c .before .before .find-left in c .joins-left .ensures ∙ fit-join (pairs (a .m) (a .v .now)) (held (a .h) (a .e .now) (a .t .now)) (a .n) (a .s .now) (a .at) (a .x) (a .k) (a .most) (e .pre .0 .stored) (e .pre .1) (f .result) (f .ensures) (omega (arith, c .before .if3 .left))
 

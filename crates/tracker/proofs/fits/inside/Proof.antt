@@ -14,31 +14,24 @@ use Rattle.span.proofs.span.FugueSpan.rle_len.Reads as rle-len-reads
 use Rattle.tracker.proofs.fits.left_unit.Reads as left-unit-reads
 use Rattle.tracker.proofs.seen.next_piece.Reads as next-piece-reads
 
--- src/fits.rt:223:17
 rle-len-requires : tie.Need-rle-len-requires
 rle-len-requires c κs = search needs
 
--- src/fits.rt:224:9
 returns : tie.Need-returns
 returns c = let e = c .before .before .before .before .before .before .before .before in let a = e .args in let z : c .before .before .rle-len .result ≡ lenSpan (a .f .piece) = c .before .before .rle-len .ensures in sym (in-piece (pairs (a .m) (a .v .now)) (held (a .h) (a .e .now) (a .t .now)) (a .n) (a .s .now) (a .f) (e .pre .1) (omega (arith, z, c .if1 .taken)))
 
--- src/fits.rt:227:13
 left-unit-requires : tie.Need-left-unit-requires
 left-unit-requires c κs = search needs
 
--- src/fits.rt:228:13
 next-piece-requires : tie.Need-next-piece-requires
 next-piece-requires c κs = let e = c .before .before .before .before .before .before .before .before .before .before .before in (e .pre .0, e .pre .1 .place, c .before .if2 .taken)
 
--- src/fits.rt:230:9
 can-merge-requires : tie.Need-can-merge-requires
 can-merge-requires c κs = search needs
 
--- src/fits.rt:218:1
 returns-2 : tie.Need-returns-2
 returns-2 c = let e = c .before .before .before .before .before .before .before .before .before .before .before .before .before .before in let a = e .args in let z : c .before .before .before .before .before .before .before .before .rle-len .result ≡ lenSpan (a .f .piece) = c .before .before .before .before .before .before .before .before .rle-len .ensures in let x = c .before .before .next-piece in c .can-merge .ensures ∙ (ap (λ (u : FugueSpan). joinsSpan u (x .result .piece)) (c .before .before .before .left-unit .ensures) ∙ sym (at-piece (pairs (a .m) (a .v .now)) (held (a .h) (a .e .now) (a .t .now)) (a .n) (a .s .now) (a .f) (e .pre .1) (omega (arith, z, c .before .before .before .before .before .before .if1 .left)) (x .result) (x .ensures)))
 
--- src/fits.rt:218:1
 returns-3 : tie.Need-returns-3
 returns-3 c = let e = c .before .before .before .before .before .before .before .before .before .before in let a = e .args in let z : c .before .before .before .before .rle-len .result ≡ lenSpan (a .f .piece) = c .before .before .before .before .rle-len .ensures in sym (at-end (pairs (a .m) (a .v .now)) (held (a .h) (a .e .now) (a .t .now)) (a .n) (a .s .now) (a .f) (e .pre .1) (omega (arith, z, c .before .before .if1 .left)) (c .if2 .left))
 

@@ -13,27 +13,21 @@ use Rattle.span.proofs.span.FugueSpan.can_merge.Reads as can-merge-reads
 use Rattle.tracker.proofs.fits.right_at.Reads as right-at-reads
 use Rattle.tracker.proofs.fits.stays_from.Reads as stays-from-reads
 
--- src/fits.rt:171:9
 right-at-requires : tie.Need-right-at-requires
 right-at-requires c κs = search needs
 
--- src/fits.rt:173:9
 with-origins-requires : tie.Need-with-origins-requires
 with-origins-requires c κs = search needs
 
--- src/fits.rt:174:8
 can-merge-requires : tie.Need-can-merge-requires
 can-merge-requires c κs = search needs
 
--- src/fits.rt:175:9
 stays-from-requires : tie.Need-stays-from-requires
 stays-from-requires c κs = search needs
 
--- src/fits.rt:156:1
 returns : tie.Need-returns
 returns c = let e = c .before .before .before .before .before .before .before .before .before .before in let a = e .args in let o = c .before .before .before .before .before .right-at in c .stays-from .ensures ∙ joins-yes (pairs (a .m) (a .v .now)) (rows (a .n) (a .s .now)) (a .at) (a .u) (a .x) (o .result) (o .ensures) (ap (joinsSpan (a .u)) (sym (c .before .before .before .with-origins .ensures)) ∙ (sym (c .before .before .can-merge .ensures) ∙ c .before .if1 .taken))
 
--- src/fits.rt:156:1
 returns-2 : tie.Need-returns-2
 returns-2 c = let e = c .before .before .before .before .before .before .before .before .before in let a = e .args in let o = c .before .before .before .before .right-at in joins-no (pairs (a .m) (a .v .now)) (rows (a .n) (a .s .now)) (a .at) (a .u) (a .x) (o .result) (o .ensures) (ap (joinsSpan (a .u)) (sym (c .before .before .with-origins .ensures)) ∙ (sym (c .before .can-merge .ensures) ∙ c .if1 .left))
 

@@ -10,15 +10,12 @@ use Rattle.tracker.proofs.fits.left_unit.Reads as reads
 use Rattle.tracker.proofs.fits.left_unit.Lts as lts
 use Rattle.span.proofs.span.FugueSpan.piece.Reads as piece-reads
 
--- src/fits.rt:214:17
 sub-piece : tie.Need-sub-piece
 sub-piece c = search needs
 
--- src/fits.rt:214:5
 piece-requires : tie.Need-piece-requires
 piece-requires c κs = let e = c .before .before in let f = e .args .f in in-range (f .piece) (f .skip - 1) (f .skip) (e .pre .fine) (omega (arith, e .pre .some)) (e .pre .most)
 
--- src/fits.rt:208:1
 returns : tie.Need-returns
 returns c = let e = c .before .before .before in let f = e .args .f in c .piece2 .ensures ∙ ap (partSpan (f .piece) (f .skip - 1)) (let z : f .skip ≡ suc (f .skip - 1) = omega (arith, e .pre .some) in z)
 

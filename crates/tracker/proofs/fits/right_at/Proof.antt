@@ -26,35 +26,27 @@ Inv-loop s n at e h t v m i₀ i = (i ≤ n) × (firstIn (pairs m v) (drop at (r
 abbrev μ-loop : tie.MeasureT-loop
 μ-loop s n at e h t v m i₀ i = n - i
 
--- src/fits.rt:54:5
 loop-holds : tie.Need-loop-holds Inv-loop μ-loop
 loop-holds c = (c .before .before .before .before .pre .1, refl)
 
--- src/fits.rt:55:13
 get-row-requires : tie.Need-get-row-requires Inv-loop μ-loop
 get-row-requires c κs = omega (arith, c .before .before .before .before .before .before .pre .0 .stored .long, c .loop-test .taken)
 
--- src/fits.rt:57:13
 future-at-requires : tie.Need-future-at-requires Inv-loop μ-loop
 future-at-requires c κs = let e = c .before .before .before .before .before .before .before .before in let a = e .args in let l = c .before .before .before .loop in let g = sym (c .before .get-row .ensures) in (e .pre .0 .first, subst (λ (r : FugueSpan). roomOf (r .id) 1 ≡ true) g (first-room (rowAt (a .s .now) (l .i * 72)) (row-fine (a .n) (a .s .now) (e .pre .0 .stored) (l .i) (c .before .before .loop-test .taken))))
 
--- src/fits.rt:58:13
 returns : tie.Need-returns Inv-loop μ-loop
 returns c = let e = c .before .before .before .before .before .before .before .before .before .before in let a = e .args in let l = c .before .before .before .before .before .loop in let R = c .before .before .before .get-row .ensures in sym (l .inv .1 ∙ (first-turn (pairs (a .m) (a .v .now)) (a .n) (a .s .now) (l .i) (c .before .before .before .before .loop-test .taken) false (ap (λ (r : FugueSpan). not (inVersion (pairs (a .m) (a .v .now)) (r .id))) (sym R) ∙ (sym (c .before .future-at .ensures) ∙ not-true _ (c .if1 .taken))) ∙ ap (λ (r : FugueSpan). At (r .id)) (sym R)))
 
--- src/fits.rt:60:9
 add-i : tie.Need-add-i Inv-loop μ-loop
 add-i c = omega (arith, c .before .before .before .before .loop-test .taken, c .before .before .before .before .before .before .before .before .before .before .fits .n)
 
--- src/fits.rt:54:5
 loop-less : tie.Need-loop-less Inv-loop μ-loop
 loop-less c = omega (arith, c .before .before .before .before .loop-test .taken)
 
--- src/fits.rt:54:5
 loop-again : tie.Need-loop-again Inv-loop μ-loop
 loop-again c = let e = c .before .before .before .before .before .before .before .before .before .before in let a = e .args in let l = c .before .before .before .before .before .loop in let R = c .before .before .before .get-row .ensures in (omega (arith, c .before .before .before .before .loop-test .taken), l .inv .1 ∙ first-turn (pairs (a .m) (a .v .now)) (a .n) (a .s .now) (l .i) (c .before .before .before .before .loop-test .taken) true (ap (λ (r : FugueSpan). not (inVersion (pairs (a .m) (a .v .now)) (r .id))) (sym R) ∙ (sym (c .before .future-at .ensures) ∙ not-false _ (c .if1 .left))))
 
--- src/fits.rt:49:1
 returns-2 : tie.Need-returns-2 Inv-loop μ-loop
 returns-2 c = let e = c .before .before .before .before .before .before in let a = e .args in let l = c .before .loop in sym (l .inv .1 ∙ first-done (pairs (a .m) (a .v .now)) (a .n) (a .s .now) (l .i) (c .loop-test .left))
 

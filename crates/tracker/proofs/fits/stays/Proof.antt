@@ -29,55 +29,42 @@ Inv-loop part k all n count e h t v m x o p q holding₀ i₀ holding i = Stay (
 abbrev μ-loop : tie.MeasureT-loop
 μ-loop part k all n count e h t v m x o p q holding₀ i₀ holding i = k - i
 
--- src/fits.rt:113:5
 loop-holds : tie.Need-loop-holds Inv-loop μ-loop
 loop-holds c = let a = c .before .before .before .before .before .args in stay-start (pairs (a .m) (a .v .now)) (verdict (expand (rows (a .n) (a .all .now))) (a .x) (a .o) (a .p) (a .q)) (a .k) (a .part .now)
 
--- src/fits.rt:114:13
 get-row-requires : tie.Need-get-row-requires Inv-loop μ-loop
 get-row-requires c κs = omega (arith, c .before .before .before .before .before .before .before .pre .0, c .loop-test .taken)
 
--- src/fits.rt:116:13
 future-at-requires : tie.Need-future-at-requires Inv-loop μ-loop
 future-at-requires c κs = let e = c .before .before .before .before .before .before .before .before .before in let a = e .args in let l = c .before .before .before .loop in let W = pairs (a .m) (a .v .now) in let G = verdict (expand (rows (a .n) (a .all .now))) (a .x) (a .o) (a .p) (a .q) in let g = c .before .before .loop-test .taken in let R = c .before .get-row .ensures in (e .pre .3, subst (λ (r : FugueSpan). roomOf (r .id) 1 ≡ true) (sym R) (first-room (rowAt (a .part .now) (l .i * 72)) (row-ok (a .k) (a .part .now) (l .i) g (e .pre .1))))
 
--- src/fits.rt:117:13
 returns : tie.Need-returns Inv-loop μ-loop
 returns c = let e = c .before .before .before .before .before .before .before .before .before .before .before in let a = e .args in let l = c .before .before .before .before .before .loop in let W = pairs (a .m) (a .v .now) in let G = verdict (expand (rows (a .n) (a .all .now))) (a .x) (a .o) (a .p) (a .q) in let g = c .before .before .before .before .loop-test .taken in let R = c .before .before .before .get-row .ensures in stay-past W G (a .k) (a .part .now) (l .holding) (l .i) (l .inv) g (ap (λ (r : FugueSpan). not (inVersion W (r .id))) (sym R) ∙ (sym (c .before .future-at .ensures) ∙ not-true _ (c .if1 .taken)))
 
--- src/fits.rt:119:13
 weigh-requires : tie.Need-weigh-requires Inv-loop μ-loop
 weigh-requires c κs = let e = c .before .before .before .before .before .before .before .before .before .before .before in let a = e .args in let l = c .before .before .before .before .before .loop in let W = pairs (a .m) (a .v .now) in let G = verdict (expand (rows (a .n) (a .all .now))) (a .x) (a .o) (a .p) (a .q) in let g = c .before .before .before .before .loop-test .taken in let R = c .before .before .before .get-row .ensures in (e .pre .2, omega (arith, e .pre .0, g), subst AllOk (rows-take (l .i) (a .k) (a .part .now) (omega (arith, g))) (ok-take (l .i) (rows (a .k) (a .part .now)) (e .pre .1)))
 
--- src/fits.rt:120:12
 is-stop-requires : tie.Need-is-stop-requires Inv-loop μ-loop
 is-stop-requires c κs = tt
 
--- src/fits.rt:121:13
 returns-2 : tie.Need-returns-2 Inv-loop μ-loop
 returns-2 c = let e = c .before .before .before .before .before .before .before .before .before .before .before .before .before .before in let a = e .args in let l = c .before .before .before .before .before .before .before .before .loop in let W = pairs (a .m) (a .v .now) in let G = verdict (expand (rows (a .n) (a .all .now))) (a .x) (a .o) (a .p) (a .q) in let g = c .before .before .before .before .before .before .before .loop-test .taken in let R = c .before .before .before .before .before .before .get-row .ensures in stay-stop W G (a .k) (a .part .now) (l .holding) (l .i) (l .inv) g (c .before .before .weigh .result) (ap (λ (r : FugueSpan). not (inVersion W (r .id))) (sym R) ∙ (sym (c .before .before .before .before .future-at .ensures) ∙ not-false _ (c .before .before .before .if1 .left))) (c .before .before .weigh .ensures ∙ ap (λ (r : FugueSpan). G (expand (rows (l .i) (a .part .now))) r) R) (sym (c .before .is-stop .ensures) ∙ c .if2 .taken)
 
--- src/fits.rt:123:9
 after-requires : tie.Need-after-requires Inv-loop μ-loop
 after-requires c κs = tt
 
--- src/fits.rt:125:13
 returns-3 : tie.Need-returns-3 Inv-loop μ-loop
 returns-3 c = let e = c .before .before .before .before .before .before .before .before .before .before .before .before .before .before .before .before in let a = e .args in let l = c .before .before .before .before .before .before .before .before .before .before .loop in let W = pairs (a .m) (a .v .now) in let G = verdict (expand (rows (a .n) (a .all .now))) (a .x) (a .o) (a .p) (a .q) in let g = c .before .before .before .before .before .before .before .before .before .loop-test .taken in let R = c .before .before .before .before .before .before .before .before .get-row .ensures in stay-moved W G (a .k) (a .part .now) (l .holding) (l .i) (l .inv) g (c .before .before .before .before .weigh .result) (ap (λ (r : FugueSpan). not (inVersion W (r .id))) (sym R) ∙ (sym (c .before .before .before .before .before .before .future-at .ensures) ∙ not-false _ (c .before .before .before .before .before .if1 .left))) (c .before .before .before .before .weigh .ensures ∙ ap (λ (r : FugueSpan). G (expand (rows (l .i) (a .part .now))) r) R) (sym (c .before .before .before .is-stop .ensures) ∙ c .before .before .if2 .left) (sym (c .before .after .ensures) ∙ not-true _ (c .if3 .taken))
 
--- src/fits.rt:127:9
 add-i : tie.Need-add-i Inv-loop μ-loop
 add-i c = omega (arith, c .before .before .before .before .before .before .before .before .before .loop-test .taken, c .before .before .before .before .before .before .before .before .before .before .before .before .before .before .before .before .fits .k)
 
--- src/fits.rt:113:5
 loop-less : tie.Need-loop-less Inv-loop μ-loop
 loop-less c = omega (arith, c .before .before .before .before .before .before .before .before .before .loop-test .taken)
 
--- src/fits.rt:113:5
 loop-again : tie.Need-loop-again Inv-loop μ-loop
 loop-again c = let e = c .before .before .before .before .before .before .before .before .before .before .before .before .before .before .before .before in let a = e .args in let l = c .before .before .before .before .before .before .before .before .before .before .loop in let W = pairs (a .m) (a .v .now) in let G = verdict (expand (rows (a .n) (a .all .now))) (a .x) (a .o) (a .p) (a .q) in let g = c .before .before .before .before .before .before .before .before .before .loop-test .taken in let R = c .before .before .before .before .before .before .before .before .get-row .ensures in subst (λ (b : Bool). Stay W G (a .k) (a .part .now) b (l .i + 1)) (sym (c .before .after .ensures)) (stay-on W G (a .k) (a .part .now) (l .holding) (l .i) (l .inv) g (c .before .before .before .before .weigh .result) (ap (λ (r : FugueSpan). not (inVersion W (r .id))) (sym R) ∙ (sym (c .before .before .before .before .before .before .future-at .ensures) ∙ not-false _ (c .before .before .before .before .before .if1 .left))) (c .before .before .before .before .weigh .ensures ∙ ap (λ (r : FugueSpan). G (expand (rows (l .i) (a .part .now))) r) R) (sym (c .before .before .before .is-stop .ensures) ∙ c .before .before .if2 .left) (sym (c .before .after .ensures) ∙ not-false _ (c .if3 .left)))
 
--- src/fits.rt:92:1
 returns-4 : tie.Need-returns-4 Inv-loop μ-loop
 returns-4 c = let e = c .before .before .before .before .before .before .before in let a = e .args in let l = c .before .loop in let W = pairs (a .m) (a .v .now) in let G = verdict (expand (rows (a .n) (a .all .now))) (a .x) (a .o) (a .p) (a .q) in stay-done W G (a .k) (a .part .now) (l .holding) (l .i) (l .inv) (c .loop-test .left)
 

@@ -22,39 +22,30 @@ use Rattle.rope.proofs.check.units.Reads as units-reads
 use Rattle.rope.proofs.place.parent_pos.Reads as parent-pos-reads
 use Rattle.tracker.proofs.fits.stays.Reads as stays-reads
 
--- src/fits.rt:149:9
 units-requires : tie.Need-units-requires
 units-requires c κs = let e = c .before .before .before .before in let a = e .args in (e .pre .0 .stored .long, few-of (a .n) (a .s .now) (e .pre .0 .stored))
 
--- src/fits.rt:150:9
 parent-pos-requires : tie.Need-parent-pos-requires
 parent-pos-requires c κs = let e = c .before .before .before .before .before in let a = e .args in held-of (a .n) (a .s .now) (e .pre .0 .stored) (c .units .result) (c .units .ensures)
 
--- src/fits.rt:151:16
 mul-from : tie.Need-mul-from
 mul-from c = search needs
 
--- src/fits.rt:152:11
 sub-stays : tie.Need-sub-stays
 sub-stays c = search needs
 
--- src/fits.rt:152:11
 part-stays-start : tie.Need-part-stays-start
 part-stays-start c = search needs
 
--- src/fits.rt:152:11
 part-stays-end : tie.Need-part-stays-end
 part-stays-end c = search needs
 
--- src/fits.rt:152:23
 sub-stays-2 : tie.Need-sub-stays-2
 sub-stays-2 c = search needs
 
--- src/fits.rt:152:5
 stays-requires : tie.Need-stays-requires
 stays-requires c κs = let e = c .before .before .before .before .before .before .before in let a = e .args in let w = e .pre .0 .stored in (part-long (a .n) (a .at) (a .s .now) (e .pre .1) (w .long), subst AllOk (sym (rows-part (a .n) (a .at) (a .s .now) (e .pre .1))) (ok-drop (a .at) (rows (a .n) (a .s .now)) (formed-of (rows (a .n) (a .s .now)) (w .formed) .each)), held-of (a .n) (a .s .now) w (c .before .before .units .result) (c .before .before .units .ensures), e .pre .0 .first)
 
--- src/fits.rt:133:1
 returns : tie.Need-returns
 returns c = let e = c .before .before .before .before .before .before .before .before in let a = e .args in let R = rows (a .n) (a .s .now) in let p = c .before .before .parent-pos in c .stays .ensures ∙ (ap (λ (l : List FugueSpan). staysAt (pairs (a .m) (a .v .now)) (verdict (expand R) (a .x) (a .o) (p .result) (a .q)) [] false l) (rows-part (a .n) (a .at) (a .s .now) (e .pre .1)) ∙ ap (λ (k : ℕ). staysAt (pairs (a .m) (a .v .now)) (verdict (expand R) (a .x) (a .o) k (a .q)) [] false (drop (a .at) R)) (p .ensures))
 

@@ -12,27 +12,21 @@ use Rattle.rope.proofs.find.has.Reads as has-reads
 use Rattle.rope.proofs.place.judge.Reads as judge-reads
 use Rattle.span.proofs.ids.OptId.same.Reads as same-reads
 
--- src/fits.rt:82:8
 same-requires : tie.Need-same-requires
 same-requires c κs = search needs
 
--- src/fits.rt:83:9
 judge-requires : tie.Need-judge-requires
 judge-requires c κs = search needs
 
--- src/fits.rt:84:15
 has-requires : tie.Need-has-requires
 has-requires c κs = search needs
 
--- src/fits.rt:66:1
 returns : tie.Need-returns
 returns c = let a = c .before .before .before .before .before .args in c .judge .ensures ∙ sym (weigh-same (expand (rows (a .n) (a .all .now))) (a .x) (a .o) (a .p) (a .q) (expand (rows (a .i) (a .part .now))) (a .row) (sym (c .before .before .same .ensures) ∙ c .before .if1 .taken))
 
--- src/fits.rt:66:1
 returns-2 : tie.Need-returns-2
 returns-2 c = let a = c .before .before .before .before .before .before .args in sym (weigh-other (expand (rows (a .n) (a .all .now))) (a .x) (a .o) (a .p) (a .q) (expand (rows (a .i) (a .part .now))) (a .row) true (sym (c .before .before .before .same .ensures) ∙ c .before .before .if1 .left) (sym (c .before .has .ensures) ∙ c .if2 .taken))
 
--- src/fits.rt:66:1
 returns-3 : tie.Need-returns-3
 returns-3 c = let a = c .before .before .before .before .before .before .args in sym (weigh-other (expand (rows (a .n) (a .all .now))) (a .x) (a .o) (a .p) (a .q) (expand (rows (a .i) (a .part .now))) (a .row) false (sym (c .before .before .before .same .ensures) ∙ c .before .before .if1 .left) (sym (c .before .has .ensures) ∙ c .if2 .left))
 

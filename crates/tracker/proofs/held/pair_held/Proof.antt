@@ -11,17 +11,17 @@ use Rattle.tracker.proofs.held.pair_held.Tie as tie
 use Rattle.tracker.proofs.held.pair_held.Reads as reads
 use Rattle.tracker.proofs.held.pair_held.Lts as lts
 use Rattle.tracker.proofs.act.count_held.Reads as count-held-reads
-use Rattle.tracker.proofs.held.held_count.Reads as held-count-reads
+use Rattle.tracker.proofs.held.count_for.Reads as count-for-reads
 
-held-count-requires : tie.Need-held-count-requires
-held-count-requires c κs = search needs
+count-for-requires : tie.Need-count-for-requires
+count-for-requires c κs = search needs
 
 count-held-requires : tie.Need-count-held-requires
 count-held-requires c κs = search needs
 
 returns : tie.Need-returns
 unfolding isHeld
-returns c = let k = c .before .before .before .args .k in λ (t : List ℕ). c .count-held .ensures ∙ ap (λ (n : ℕ). leZ (pos 1) (k .many) && leZ (k .many) (pos n)) (c .before .held-count .ensures t)
+returns c = let k = c .before .before .before .args .k in λ (t : List ℕ). c .count-held .ensures ∙ ap (λ (n : ℕ). leZ (pos 1) (k .many) && leZ (k .many) (pos n)) (c .before .count-for .ensures t)
 
 pub pair-held-spec : {M : Type 1} → statement M
-pair-held-spec = tie.close (tie.spec held-count-requires count-held-requires returns)
+pair-held-spec = tie.close (tie.spec count-for-requires count-held-requires returns)

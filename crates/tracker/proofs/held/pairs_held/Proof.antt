@@ -17,10 +17,10 @@ use Rattle.tracker.proofs.held.pair_held.Reads as pair-held-reads
 use Rattle.tracker.proofs.row.get_pair.Reads as get-pair-reads
 
 abbrev Inv-loop : tie.InvT-loop
-Inv-loop e h v m i₀ i = (i ≤ m) × ((t : List ℕ) → every (isHeld (held h e t)) (pairs m v) ≡ every (isHeld (held h e t)) (drop i (pairs m v)))
+Inv-loop e h v m fit i₀ i = (i ≤ m) × ((t : List ℕ) → every (isHeld (held h e t)) (pairs m v) ≡ every (isHeld (held h e t)) (drop i (pairs m v)))
 
 abbrev μ-loop : tie.MeasureT-loop
-μ-loop e h v m i₀ i = m - i
+μ-loop e h v m fit i₀ i = m - i
 
 loop-holds : tie.Need-loop-holds Inv-loop μ-loop
 loop-holds c = (omega arith, λ (t : List ℕ). refl)
@@ -29,7 +29,7 @@ get-pair-requires : tie.Need-get-pair-requires Inv-loop μ-loop
 get-pair-requires c κs = omega (arith, c .before .before .before .before .pre .2, c .loop-test .taken)
 
 pair-held-requires : tie.Need-pair-held-requires Inv-loop μ-loop
-pair-held-requires c κs = (c .before .before .before .before .before .pre .0, c .before .before .before .before .before .pre .1)
+pair-held-requires c κs = let p = c .before .before .before .before .before .pre in (p .0, p .1, p .3)
 
 returns : tie.Need-returns Inv-loop μ-loop
 returns c = let l = c .before .before .before .before .loop in let a = c .before .before .before .before .before .before .before .args in λ (t : List ℕ). sym (l .inv .1 t ∙ every-turn (a .m) (a .v .now) (l .i) (c .before .before .before .loop-test .taken) _ (c .before .before .get-pair .ensures) (isHeld (held (a .h) (a .e .now) t)) false (sym (c .before .pair-held .ensures t) ∙ not-true _ (c .if1 .taken)))

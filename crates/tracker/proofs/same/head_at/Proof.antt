@@ -8,27 +8,21 @@ use Rattle.tracker.proofs.same.head_at.Reads as reads
 use Rattle.tracker.proofs.same.head_at.Lts as lts
 use Rattle.tracker.proofs.row.get_head.Reads as get-head-reads
 
--- src/same.rt:119:16
 mul-from : tie.Need-mul-from
 mul-from c = search needs
 
--- src/same.rt:120:14
 sub-get-head : tie.Need-sub-get-head
 sub-get-head c = search needs
 
--- src/same.rt:120:14
 part-get-head-start : tie.Need-part-get-head-start
 part-get-head-start c = search needs
 
--- src/same.rt:120:14
 part-get-head-end : tie.Need-part-get-head-end
 part-get-head-end c = search needs
 
--- src/same.rt:120:5
 get-head-requires : tie.Need-get-head-requires
 get-head-requires c κs = search needs
 
--- src/same.rt:115:1
 returns : tie.Need-returns
 returns c = let a = c .before .before .before .args in edit-part (c .get-head .result) _ _ (part-is (a .e .now) (a .i * 256)) (c .get-head .ensures)
 

@@ -9,27 +9,21 @@ use Rattle.tracker.proofs.same.made_len.Lts as lts
 use Rattle.span.proofs.chunk.RichtextChunk.len.Reads as len-reads
 use Rattle.tracker.proofs.same.head_at.Reads as head-at-reads
 
--- src/same.rt:212:9
 head-at-requires : tie.Need-head-at-requires
 head-at-requires c κs = search needs
 
--- src/same.rt:215:25
 enum-known-act : tie.Need-enum-known-act
 enum-known-act c = search needs
 
--- src/same.rt:215:31
 len-requires : tie.Need-len-requires
 len-requires c κs = search needs
 
--- src/same.rt:216:34
 enum-told : tie.Need-enum-told
 enum-told c = search needs
 
--- src/same.rt:208:1
 returns : tie.Need-returns
 returns c = let h = c .before .before .before .before in c .len .ensures ∙ length-insert _ _ (h .head-at .ensures) _ _ (ap toAct (c .before .before .act .given .1))
 
--- src/same.rt:208:1
 returns-2 : tie.Need-returns-2
 returns-2 c = let h = c .before .before in length-delete _ _ (h .head-at .ensures) _ _ _ (ap toAct (c .enum-told .given .1))
 

@@ -13,31 +13,24 @@ Inv-loop row k e h i₀ i = Searched row k h e i
 abbrev μ-loop : tie.MeasureT-loop
 μ-loop row k e h i₀ i = h - i
 
--- src/same.rt:143:5
 loop-holds : tie.Need-loop-holds Inv-loop μ-loop
 loop-holds c = searched-start _ _ _ _ (c .before .pre .3)
 
--- src/same.rt:144:13
 reach-edit-requires : tie.Need-reach-edit-requires Inv-loop μ-loop
 reach-edit-requires c κs = let l = c .before .loop in let s = c .before .before .before in let a = s .args in (s .pre .0, s .pre .1, omega (arith, s .pre .2, c .loop-test .taken), searched-fine (a .row) (a .k) (a .h) (a .e .now) (l .i) (l .inv) (c .loop-test .taken))
 
--- src/same.rt:146:13
 returns : tie.Need-returns Inv-loop μ-loop
 returns c = let b = c .before .before in let l = b .before .loop in let s = b .before .before .before in let a = s .args in searched-found (a .row) (a .k) (a .h) (a .e .now) (l .i) (l .inv) (b .loop-test .taken) _ (c .before .reach-edit .ensures) (c .if1 .taken)
 
--- src/same.rt:148:9
 add-i : tie.Need-add-i Inv-loop μ-loop
 add-i c = omega (arith, c .before .before .loop-test .taken)
 
--- src/same.rt:143:5
 loop-less : tie.Need-loop-less Inv-loop μ-loop
 loop-less c = omega (arith, c .before .before .loop-test .taken)
 
--- src/same.rt:143:5
 loop-again : tie.Need-loop-again Inv-loop μ-loop
 loop-again c = let b = c .before .before in let l = b .before .loop in let s = b .before .before .before in let a = s .args in searched-next (a .row) (a .k) (a .h) (a .e .now) (l .i) (l .inv) (b .loop-test .taken) _ (c .before .reach-edit .ensures) (c .if1 .left)
 
--- src/same.rt:138:1
 returns-2 : tie.Need-returns-2 Inv-loop μ-loop
 returns-2 c = let l = c .before .loop in let s = c .before .before .before in let a = s .args in searched-done (a .row) (a .k) (a .h) (a .e .now) (l .i) (l .inv) (s .pre .1) (c .loop-test .left)
 

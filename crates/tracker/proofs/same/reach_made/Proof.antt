@@ -7,19 +7,15 @@ use Rattle.tracker.proofs.same.reach_made.Lts as lts
 use Rattle.tracker.proofs.same.reach_edits.Reads as reach-edits-reads
 use Rattle.tracker.proofs.same.reach_holder.Reads as reach-holder-reads
 
--- src/same.rt:177:9
 reach-holder-requires : tie.Need-reach-holder-requires
 reach-holder-requires c κs = search needs
 
--- src/same.rt:179:9
 returns : tie.Need-returns
 returns c = let s = c .before .before .before in let a = s .args in made-holder (a .row) (a .k) (a .p) (a .h) (a .e .now) _ (c .before .reach-holder .ensures) (c .if1 .taken)
 
--- src/same.rt:181:5
 reach-edits-requires : tie.Need-reach-edits-requires
 reach-edits-requires c κs = search needs
 
--- src/same.rt:173:1
 returns-2 : tie.Need-returns-2
 returns-2 c = let s = c .before .before .before .before in let a = s .args in made-edits (a .row) (a .k) (a .p) (a .h) (a .e .now) _ _ (c .before .before .reach-holder .ensures) (c .before .if1 .left) (c .reach-edits .ensures)
 

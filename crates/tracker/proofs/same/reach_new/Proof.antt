@@ -7,27 +7,21 @@ use Rattle.tracker.proofs.same.reach_new.Lts as lts
 use Rattle.span.proofs.span.FugueSpan.new.Reads as new-reads
 use Rattle.tracker.proofs.same.reach.Reads as reach-reads
 
--- src/same.rt:108:11
 new-requires : tie.Need-new-requires
 new-requires c κs = search needs
 
--- src/same.rt:109:26
 enum-known-x : tie.Need-enum-known-x
 enum-known-x c = search needs
 
--- src/same.rt:109:32
 reach-requires : tie.Need-reach-requires
 reach-requires c κs = let d = c .before in let n = d .before .before in let s = n .before in let a = s .args in (s .pre .0, s .pre .1, fine-done _ _ _ (new-done (a .id) (a .lamport) (a .c) _ (n .new .ensures) (s .pre .2)) (d .x .given .1) (s .pre .2))
 
--- src/same.rt:110:35
 enum-told : tie.Need-enum-told
 enum-told c = search needs
 
--- src/same.rt:104:1
 returns : tie.Need-returns
 returns c = let d = c .before .before in let n = d .before .before in let s = n .before in let a = s .args in meets-new (a .row) (a .k) _ _ _ _ (new-done (a .id) (a .lamport) (a .c) _ (n .new .ensures) (s .pre .2)) (d .x .given .1) (c .reach .ensures)
 
--- src/same.rt:104:1
 returns-2 : tie.Need-returns-2
 returns-2 c = let n = c .before .before in let s = n .before in let a = s .args in absurd (not-refused _ _ _ (new-done (a .id) (a .lamport) (a .c) _ (n .new .ensures) (s .pre .2)) (c .enum-told .given .1))
 

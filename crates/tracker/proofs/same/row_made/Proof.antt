@@ -17,35 +17,27 @@ Inv-loop row e h p n k₀ k = Row (madeIn p h e) row k
 abbrev μ-loop : tie.MeasureT-loop
 μ-loop row e h p n k₀ k = n - k
 
--- src/same.rt:180:9
 rle-len-requires : tie.Need-rle-len-requires Inv-loop μ-loop
 rle-len-requires c κs = tt
 
--- src/same.rt:182:5
 loop-holds : tie.Need-loop-holds Inv-loop μ-loop
 loop-holds c = row-start _ _
 
--- src/same.rt:183:13
 reach-made-requires : tie.Need-reach-made-requires Inv-loop μ-loop
 reach-made-requires c κs = let n = c .before .before in let s = n .before .before in (s .pre .0, omega (arith, n .rle-len .ensures, c .loop-test .taken), s .pre .1, s .pre .2, s .pre .3)
 
--- src/same.rt:185:13
 returns : tie.Need-returns Inv-loop μ-loop
 returns c = let b = c .before .before in let l = b .before .loop in let n = b .before .before in let s = n .before .before in let a = s .args in sym (row-stop (madeIn (a .p) (a .h) (a .e .now)) (a .row) (l .k) (l .inv) (omega (arith, n .rle-len .ensures, b .loop-test .taken)) _ (c .before .reach-made .ensures) (c .if1 .taken))
 
--- src/same.rt:187:9
 add-k : tie.Need-add-k Inv-loop μ-loop
 add-k c = let n = c .before .before .before .before in let s = n .before .before in omega (arith, c .before .reach-made .ensures .few, len-small (s .args .row) (s .pre .0))
 
--- src/same.rt:182:5
 loop-less : tie.Need-loop-less Inv-loop μ-loop
 loop-less c = let b = c .before .before in let n = b .before .before in omega (arith, c .before .reach-made .ensures .few, c .if1 .left, n .rle-len .ensures, b .loop-test .taken)
 
--- src/same.rt:182:5
 loop-again : tie.Need-loop-again Inv-loop μ-loop
 loop-again c = let b = c .before .before in let l = b .before .loop in let n = b .before .before in let s = n .before .before in let a = s .args in row-next (madeIn (a .p) (a .h) (a .e .now)) (a .row) (l .k) (l .inv) _ (c .before .reach-made .ensures)
 
--- src/same.rt:176:1
 returns-2 : tie.Need-returns-2 Inv-loop μ-loop
 returns-2 c = let l = c .before .loop in let n = c .before .before in let s = n .before .before in let a = s .args in sym (row-done (madeIn (a .p) (a .h) (a .e .now)) (a .row) (l .k) (l .inv) (omega (arith, n .rle-len .ensures, c .loop-test .left)))
 

@@ -22,35 +22,27 @@ Inv-loop s n e h p i₀ i = (i ≤ n) × (allMade (madeIn p h e) (expand (rows n
 abbrev μ-loop : tie.MeasureT-loop
 μ-loop s n e h p i₀ i = n - i
 
--- src/same.rt:207:5
 loop-holds : tie.Need-loop-holds Inv-loop μ-loop
 loop-holds c = (omega arith, refl)
 
--- src/same.rt:208:22
 get-row-requires : tie.Need-get-row-requires Inv-loop μ-loop
 get-row-requires c κs = let s = c .before .before .before .before in omega (arith, s .pre .0, c .loop-test .taken)
 
--- src/same.rt:208:13
 row-made-requires : tie.Need-row-made-requires Inv-loop μ-loop
 row-made-requires c κs = let b = c .before in let l = b .before .loop in let s = b .before .before .before .before in let a = s .args in (ap spanCode (c .get-row .ensures) ∙ row-ok (a .n) (a .s .now) (l .i) (b .loop-test .taken) (s .pre .1), s .pre .2, s .pre .3, s .pre .4)
 
--- src/same.rt:209:13
 returns : tie.Need-returns Inv-loop μ-loop
 returns c = let g = c .before .before in let b = g .before in let l = b .before .loop in let s = b .before .before .before .before in let a = s .args in sym (l .inv .1 ∙ rows-stop (madeIn (a .p) (a .h) (a .e .now)) (a .n) (a .s .now) (l .i) (b .loop-test .taken) _ (g .get-row .ensures) _ (c .before .row-made .ensures) (not-true _ (c .if1 .taken)))
 
--- src/same.rt:211:9
 add-i : tie.Need-add-i Inv-loop μ-loop
 add-i c = let b = c .before .before .before in omega (arith, b .loop-test .taken)
 
--- src/same.rt:207:5
 loop-less : tie.Need-loop-less Inv-loop μ-loop
 loop-less c = let b = c .before .before .before in omega (arith, b .loop-test .taken)
 
--- src/same.rt:207:5
 loop-again : tie.Need-loop-again Inv-loop μ-loop
 loop-again c = let g = c .before .before in let b = g .before in let l = b .before .loop in let s = b .before .before .before .before in let a = s .args in (omega (arith, b .loop-test .taken), l .inv .1 ∙ rows-next (madeIn (a .p) (a .h) (a .e .now)) (a .n) (a .s .now) (l .i) (b .loop-test .taken) _ (g .get-row .ensures) _ (c .before .row-made .ensures) (not-false _ (c .if1 .left)))
 
--- src/same.rt:202:1
 returns-2 : tie.Need-returns-2 Inv-loop μ-loop
 returns-2 c = let l = c .before .loop in let s = c .before .before .before .before in let a = s .args in sym (l .inv .1 ∙ rows-done (madeIn (a .p) (a .h) (a .e .now)) (a .n) (a .s .now) (l .i) (c .loop-test .left))
 

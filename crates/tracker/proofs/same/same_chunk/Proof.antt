@@ -4,11 +4,9 @@ use Rattle.tracker.proofs.same.same_chunk.Tie as tie
 use Rattle.tracker.proofs.same.same_chunk.Reads as reads
 use Rattle.tracker.proofs.same.same_chunk.Lts as lts
 
--- src/same.rt:45:1
 returns : tie.Need-returns
 returns c = rw (eq-eqb _ _ (c .before .before .if1 .taken))
 
--- src/same.rt:45:1
 returns-2 : tie.Need-returns-2
 returns-2 c = rw (ne-eqb _ _ (c .if1 .left))
 

@@ -6,15 +6,12 @@ use Rattle.tracker.proofs.same.same_real.Reads as reads
 use Rattle.tracker.proofs.same.same_real.Lts as lts
 use Rattle.span.proofs.ids.OptId.same.Reads as same-reads
 
--- src/same.rt:41:9
 same-requires : tie.Need-same-requires
 same-requires c κs = search needs
 
--- src/same.rt:33:1
 returns : tie.Need-returns
 returns c = rw (eq-eqb _ _ (c .if1 .taken))
 
--- src/same.rt:33:1
 returns-2 : tie.Need-returns-2
 returns-2 c = rw (ne-eqb _ _ (c .before .if1 .left)) (c .same .ensures)
 

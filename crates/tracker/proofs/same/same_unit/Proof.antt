@@ -11,31 +11,24 @@ use Rattle.span.proofs.ids.Id.same.Reads as same-reads
 use Rattle.tracker.proofs.same.same_chunk.Reads as same-chunk-reads
 use Rattle.tracker.proofs.same.same_real.Reads as same-real-reads
 
--- src/same.rt:55:8
 same-requires : tie.Need-same-requires
 same-requires c κs = search needs
 
--- src/same.rt:57:16
 same-chunk-requires : tie.Need-same-chunk-requires
 same-chunk-requires c κs = search needs
 
--- src/same.rt:58:17
 same-real-requires : tie.Need-same-real-requires
 same-real-requires c κs = search needs
 
--- src/same.rt:52:1
 returns : tie.Need-returns
 returns c = let d = c .before .before .before in unit-by _ _ true true true _ (sym (d .before .before .before .before .same .ensures) ∙ d .before .before .before .if1 .taken) (eq-eqb _ _ (d .if2 .taken)) (sym (c .before .before .same-chunk .ensures) ∙ c .before .if3 .taken) (sym (c .same-real .ensures))
 
--- src/same.rt:52:1
 returns-2 : tie.Need-returns-2
 returns-2 c = let d = c .before .before in unit-by _ _ true true false _ (sym (d .before .before .before .before .same .ensures) ∙ d .before .before .before .if1 .taken) (eq-eqb _ _ (d .if2 .taken)) (sym (c .before .same-chunk .ensures) ∙ c .if3 .left) refl
 
--- src/same.rt:52:1
 returns-3 : tie.Need-returns-3
 returns-3 c = unit-by _ _ true false _ _ (sym (c .before .before .before .before .same .ensures) ∙ c .before .before .before .if1 .taken) (ne-eqb _ _ (c .if2 .left)) refl refl
 
--- src/same.rt:52:1
 returns-4 : tie.Need-returns-4
 returns-4 c = unit-by _ _ false _ _ _ (sym (c .before .same .ensures) ∙ c .if1 .left) refl refl refl
 

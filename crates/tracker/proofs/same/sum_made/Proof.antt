@@ -14,35 +14,27 @@ Inv-loop e h i₀ sum₀ i sum = Made h e i sum
 abbrev μ-loop : tie.MeasureT-loop
 μ-loop e h i₀ sum₀ i sum = h - i
 
--- src/same.rt:227:5
 loop-holds : tie.Need-loop-holds Inv-loop μ-loop
 loop-holds c = made-start _ _
 
--- src/same.rt:228:16
 made-len-requires : tie.Need-made-len-requires Inv-loop μ-loop
 made-len-requires c κs = let s = c .before .before .before in omega (arith, s .pre .0, c .loop-test .taken)
 
--- src/same.rt:228:16
 cast-sum : tie.Need-cast-sum Inv-loop μ-loop
 cast-sum c = search needs
 
--- src/same.rt:228:9
 add-sum : tie.Need-add-sum Inv-loop μ-loop
 add-sum c = let l = c .before .before .loop in let s = c .before .before .before .before in omega (arith, l .inv .small, l .inv .low, c .before .loop-test .taken, s .pre .1, c .made-len .ok)
 
--- src/same.rt:229:9
 add-i : tie.Need-add-i Inv-loop μ-loop
 add-i c = omega (arith, c .before .loop-test .taken)
 
--- src/same.rt:227:5
 loop-less : tie.Need-loop-less Inv-loop μ-loop
 loop-less c = omega (arith, c .before .loop-test .taken)
 
--- src/same.rt:227:5
 loop-again : tie.Need-loop-again Inv-loop μ-loop
 loop-again c = let l = c .before .before .loop in let s = c .before .before .before .before in let a = s .args in made-turn (a .h) (a .e .now) (l .i) (l .sum) (l .inv) (c .before .loop-test .taken) _ (c .made-len .ensures) (search needs)
 
--- src/same.rt:221:1
 returns : tie.Need-returns Inv-loop μ-loop
 returns c = let l = c .before .loop in let s = c .before .before .before in let a = s .args in (made-done (a .h) (a .e .now) (l .i) (l .sum) (l .inv) (c .loop-test .left), omega (arith, l .inv .small, l .inv .low, s .pre .1))
 

@@ -8,15 +8,12 @@ use Rattle.tracker.proofs.same.unit.Reads as reads
 use Rattle.tracker.proofs.same.unit.Lts as lts
 use Rattle.span.proofs.span.FugueSpan.piece.Reads as piece-reads
 
--- src/same.rt:75:16
 add-piece : tie.Need-add-piece
 add-piece c = omega (arith, c .pre .1, len-small (c .args .x) (c .pre .0))
 
--- src/same.rt:75:5
 piece-requires : tie.Need-piece-requires
 piece-requires c κs = unit-cut (c .args .x) (c .args .k) (c .pre .0) (c .pre .1)
 
--- src/same.rt:71:1
 returns : tie.Need-returns
 returns c = c .piece .ensures ∙ unit-one (c .before .args .x) (c .before .args .k)
 

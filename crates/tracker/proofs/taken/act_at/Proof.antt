@@ -11,27 +11,21 @@ use Rattle.tracker.proofs.taken.act_at.Reads as reads
 use Rattle.tracker.proofs.taken.act_at.Lts as lts
 use Rattle.tracker.proofs.row.get_head.Reads as get-head-reads
 
--- src/taken.rt:181:16
 mul-from : tie.Need-mul-from
 mul-from c = search needs
 
--- src/taken.rt:182:25
 sub-get-head : tie.Need-sub-get-head
 sub-get-head c = search needs
 
--- src/taken.rt:182:25
 part-get-head-start : tie.Need-part-get-head-start
 part-get-head-start c = search needs
 
--- src/taken.rt:182:25
 part-get-head-end : tie.Need-part-get-head-end
 part-get-head-end c = search needs
 
--- src/taken.rt:182:9
 get-head-requires : tie.Need-get-head-requires
 get-head-requires c κs = search needs
 
--- src/taken.rt:177:1
 returns : tie.Need-returns
 returns c = let a = c .before .before .before .args in ap (λ (x : Edit). x .act) (c .get-head .ensures) ∙ ap (λ (l : List ℕ). editIn l .act) (part-is (a .e .now) (a .i * 256))
 

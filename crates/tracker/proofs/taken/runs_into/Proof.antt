@@ -12,31 +12,24 @@ use Rattle.span.proofs.ids.Id.inc.Reads as inc-reads
 use Rattle.span.proofs.ids.Id.same.Reads as same-reads
 use Rattle.tracker.proofs.row.get_target.Reads as get-target-reads
 
--- src/taken.rt:94:8
 add-if1 : tie.Need-add-if1
 add-if1 c = search needs
 
--- src/taken.rt:95:13
 inc-requires : tie.Need-inc-requires
 inc-requires c κs = search needs
 
--- src/taken.rt:96:30
 add-get-target : tie.Need-add-get-target
 add-get-target c = search needs
 
--- src/taken.rt:96:16
 get-target-requires : tie.Need-get-target-requires
 get-target-requires c κs = search needs
 
--- src/taken.rt:96:9
 same-requires : tie.Need-same-requires
 same-requires c κs = search needs
 
--- src/taken.rt:90:1
 returns : tie.Need-returns
 returns c = let a = c .before .before .before .before .before .args in c .same .ensures ∙ (ap₂ sameId (c .before .before .inc .ensures) (ap (λ (q : Range). q .id) (c .before .get-target .ensures)) ∙ next-range (a .m) (a .t .now) (a .j) (c .before .before .before .if1 .taken) (toRange (a .r)))
 
--- src/taken.rt:90:1
 returns-2 : tie.Need-returns-2
 returns-2 c = let a = c .before .before .args in no-range (a .m) (a .t .now) (a .j) (c .if1 .left) (toRange (a .r))
 

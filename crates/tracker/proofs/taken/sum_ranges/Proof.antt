@@ -16,35 +16,27 @@ Inv-loop t m j₀ sum₀ j sum = Summed m t j sum
 abbrev μ-loop : tie.MeasureT-loop
 μ-loop t m j₀ sum₀ j sum = m - j
 
--- src/taken.rt:131:5
 loop-holds : tie.Need-loop-holds Inv-loop μ-loop
 loop-holds c = sum-start _ _
 
--- src/taken.rt:132:16
 get-target-requires : tie.Need-get-target-requires Inv-loop μ-loop
 get-target-requires c κs = omega (arith, c .before .before .before .pre .0, c .loop-test .taken)
 
--- src/taken.rt:132:16
 cast-sum : tie.Need-cast-sum Inv-loop μ-loop
 cast-sum c = search needs
 
--- src/taken.rt:132:9
 add-sum : tie.Need-add-sum Inv-loop μ-loop
 add-sum c = search needs
 
--- src/taken.rt:133:9
 add-j : tie.Need-add-j Inv-loop μ-loop
 add-j c = search needs
 
--- src/taken.rt:131:5
 loop-less : tie.Need-loop-less Inv-loop μ-loop
 loop-less c = omega (arith, c .before .before .loop-test .taken)
 
--- src/taken.rt:131:5
 loop-again : tie.Need-loop-again Inv-loop μ-loop
 loop-again c = let g = c .before in let l = g .before .before .loop in let a = g .before .before .before .before .args in sum-turn (a .m) (a .t .now) (l .j) (l .sum) (l .inv) (g .before .loop-test .taken) _ (ap (λ (q : Range). q .len) (g .get-target .ensures)) (search needs)
 
--- src/taken.rt:125:1
 returns : tie.Need-returns Inv-loop μ-loop
 returns c = let l = c .before .loop in let a = c .before .before .before .args in sum-done (a .m) (a .t .now) (l .j) (l .sum) (l .inv) (c .loop-test .left)
 

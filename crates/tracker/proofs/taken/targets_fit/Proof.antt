@@ -18,48 +18,37 @@ Inv-loop s n e h t i₀ at₀ i at = Taking n s h e t i at
 abbrev μ-loop : tie.MeasureT-loop
 μ-loop s n e h t i₀ at₀ i at = h - i
 
--- src/taken.rt:201:5
 loop-holds : tie.Need-loop-holds Inv-loop μ-loop
 loop-holds c = taking-start _ _ _ _ _
 
--- src/taken.rt:202:17
 took-at-requires : tie.Need-took-at-requires Inv-loop μ-loop
 took-at-requires c κs = let s = c .before .before .before .before .before in omega (arith, s .pre .1, c .loop-test .taken)
 
--- src/taken.rt:202:17
 cast-m : tie.Need-cast-m Inv-loop μ-loop
 cast-m c = search needs
 
--- src/taken.rt:203:13
 act-at-requires : tie.Need-act-at-requires Inv-loop μ-loop
 act-at-requires c κs = let s = c .before .before .before .before .before .before in omega (arith, s .pre .1, c .before .loop-test .taken)
 
--- src/taken.rt:204:13
 took-fits-at-requires : tie.Need-took-fits-at-requires Inv-loop μ-loop
 took-fits-at-requires c κs = let l = c .before .before .before .loop in let s = c .before .before .before .before .before .before .before in let a = s .args in let u = taking-used (a .n) (a .s .now) (a .h) (a .e .now) (a .t .now) (s .pre .0) (l .i) (l .at) (l .inv) (c .before .before .loop-test .taken) in
     (s .pre .0, omega (arith, u, s .pre .2, c .before .took-at .ensures), omega (arith, u, s .pre .3, c .before .took-at .ensures))
 
--- src/taken.rt:205:13
 returns : tie.Need-returns Inv-loop μ-loop
 returns c = let k = c .before .before in let l = k .before .before .before .loop in let s = k .before .before .before .before .before .before .before in let a = s .args in sym (taking-stop (a .n) (a .s .now) (a .h) (a .e .now) (a .t .now) (s .pre .0) (l .i) (l .at) (l .inv) (k .before .before .loop-test .taken) _ _ _ (k .before .took-at .ensures) (k .act-at .ensures) (c .before .took-fits-at .ensures) (not-true _ (c .if1 .taken)))
 
--- src/taken.rt:207:9
 add-at : tie.Need-add-at Inv-loop μ-loop
 add-at c = let k = c .before .before in let l = k .before .before .before .loop in let s = k .before .before .before .before .before .before .before in let a = s .args in let u = taking-used (a .n) (a .s .now) (a .h) (a .e .now) (a .t .now) (s .pre .0) (l .i) (l .at) (l .inv) (k .before .before .loop-test .taken) in omega (arith, u, s .pre .3, k .before .took-at .ensures)
 
--- src/taken.rt:208:9
 add-i : tie.Need-add-i Inv-loop μ-loop
 add-i c = let k = c .before .before in omega (arith, k .before .before .loop-test .taken)
 
--- src/taken.rt:201:5
 loop-less : tie.Need-loop-less Inv-loop μ-loop
 loop-less c = let k = c .before .before in omega (arith, k .before .before .loop-test .taken)
 
--- src/taken.rt:201:5
 loop-again : tie.Need-loop-again Inv-loop μ-loop
 loop-again c = let k = c .before .before in let l = k .before .before .before .loop in let s = k .before .before .before .before .before .before .before in let a = s .args in taking-next (a .n) (a .s .now) (a .h) (a .e .now) (a .t .now) (s .pre .0) (l .i) (l .at) (l .inv) (k .before .before .loop-test .taken) _ _ _ (k .before .took-at .ensures) (k .act-at .ensures) (c .before .took-fits-at .ensures) (not-false _ (c .if1 .left))
 
--- src/taken.rt:195:1
 returns-2 : tie.Need-returns-2 Inv-loop μ-loop
 returns-2 c = let l = c .before .loop in let s = c .before .before .before .before .before in let a = s .args in sym (taking-done (a .n) (a .s .now) (a .h) (a .e .now) (a .t .now) (s .pre .0) (l .i) (l .at) (l .inv) (c .loop-test .left))
 

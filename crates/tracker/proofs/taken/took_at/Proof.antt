@@ -9,27 +9,21 @@ use Rattle.tracker.proofs.taken.took_at.Reads as reads
 use Rattle.tracker.proofs.taken.took_at.Lts as lts
 use Rattle.tracker.proofs.row.get_took.Reads as get-took-reads
 
--- src/taken.rt:190:16
 mul-from : tie.Need-mul-from
 mul-from c = search needs
 
--- src/taken.rt:191:14
 sub-get-took : tie.Need-sub-get-took
 sub-get-took c = search needs
 
--- src/taken.rt:191:14
 part-get-took-start : tie.Need-part-get-took-start
 part-get-took-start c = search needs
 
--- src/taken.rt:191:14
 part-get-took-end : tie.Need-part-get-took-end
 part-get-took-end c = search needs
 
--- src/taken.rt:191:5
 get-took-requires : tie.Need-get-took-requires
 get-took-requires c κs = search needs
 
--- src/taken.rt:186:1
 returns : tie.Need-returns
 returns c = let a = c .before .before .before .args in c .get-took .ensures ∙ ap tookIn (part-is (a .e .now) (a .i * 256))
 

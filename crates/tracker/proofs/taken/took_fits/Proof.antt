@@ -12,31 +12,24 @@ use Rattle.tracker.proofs.taken.length_of.Reads as length-of-reads
 use Rattle.tracker.proofs.taken.sum_ranges.Reads as sum-ranges-reads
 use Rattle.tracker.proofs.taken.well_ranges.Reads as well-ranges-reads
 
--- src/taken.rt:148:8
 sum-ranges-requires : tie.Need-sum-ranges-requires
 sum-ranges-requires c κs = search needs
 
--- src/taken.rt:148:28
 length-of-requires : tie.Need-length-of-requires
 length-of-requires c κs = search needs
 
--- src/taken.rt:149:9
 returns : tie.Need-returns
 returns c = took-by _ _ _ false _ _ (ne-eqb _ _ (λ e. c .if1 .taken (c .before .before .sum-ranges .ensures ∙ (e ∙ sym (c .before .length-of .ensures))))) refl refl
 
--- src/taken.rt:151:9
 well-ranges-requires : tie.Need-well-ranges-requires
 well-ranges-requires c κs = search needs
 
--- src/taken.rt:152:9
 returns-2 : tie.Need-returns-2
 returns-2 c = let k = c .before .before .before in took-by _ _ _ true false _ (eq-eqb _ _ (sym (k .before .sum-ranges .ensures) ∙ (c .before .before .if1 .left ∙ k .length-of .ensures))) (sym (c .before .well-ranges .ensures) ∙ not-true _ (c .if2 .taken)) refl
 
--- src/taken.rt:154:5
 follows-requires : tie.Need-follows-requires
 follows-requires c κs = let s = c .before .before .before .before .before .before .before in (s .pre .0 .long, stored-ok (s .args .n) (s .args .s .now) (s .pre .0), s .pre .1, sym (c .before .well-ranges .ensures) ∙ not-false _ (c .if2 .left))
 
--- src/taken.rt:144:1
 returns-3 : tie.Need-returns-3
 returns-3 c = let k = c .before .before .before .before in took-by _ _ _ true true _ (eq-eqb _ _ (sym (k .before .sum-ranges .ensures) ∙ (c .before .before .before .if1 .left ∙ k .length-of .ensures))) (sym (c .before .before .well-ranges .ensures) ∙ not-false _ (c .before .if2 .left)) (sym (c .follows .ensures))
 

@@ -13,27 +13,21 @@ use Rattle.tracker.proofs.taken.took_fits_at.Reads as reads
 use Rattle.tracker.proofs.taken.took_fits_at.Lts as lts
 use Rattle.tracker.proofs.taken.took_fits.Reads as took-fits-reads
 
--- src/taken.rt:172:17
 mul-start : tie.Need-mul-start
 mul-start c = search needs
 
--- src/taken.rt:173:21
 sub-took-fits : tie.Need-sub-took-fits
 sub-took-fits c = search needs
 
--- src/taken.rt:173:21
 part-took-fits-start : tie.Need-part-took-fits-start
 part-took-fits-start c = search needs
 
--- src/taken.rt:173:21
 part-took-fits-end : tie.Need-part-took-fits-end
 part-took-fits-end c = search needs
 
--- src/taken.rt:173:5
 took-fits-requires : tie.Need-took-fits-requires
 took-fits-requires c κs = search needs
 
--- src/taken.rt:168:1
 returns : tie.Need-returns
 returns c = let a = c .before .before .before .before .args in c .took-fits .ensures ∙ ap (λ (l : List ℕ). tookFits (expand (rows (a .n) (a .s .now))) (toAct (a .act)) (ranges (a .m) l)) (part-is (a .t .now) (a .at * 16))
 

@@ -11,63 +11,48 @@ use Rattle.rope.proofs.find.offset_of.Reads as offset-of-reads
 use Rattle.span.proofs.ids.Id.inc.Reads as inc-reads
 use Rattle.span.proofs.span.FugueSpan.rle_len.Reads as rle-len-reads
 
--- src/taken.rt:33:9
 inc-requires : tie.Need-inc-requires
 inc-requires c κs = let a = c .args in room-less (a .r .id .counter) (a .o) (a .r .len) (omega (arith, c .pre .2)) (c .pre .3)
 
--- src/taken.rt:34:9
 rle-len-requires : tie.Need-rle-len-requires
 rle-len-requires c κs = search needs
 
--- src/taken.rt:35:11
 offset-of-requires : tie.Need-offset-of-requires
 offset-of-requires c κs = search needs
 
--- src/taken.rt:36:28
 enum-told : tie.Need-enum-told
 enum-told c = search needs
 
--- src/taken.rt:40:20
 enum-known-d : tie.Need-enum-known-d
 enum-known-d c = search needs
 
--- src/taken.rt:46:23
 sub-if2 : tie.Need-sub-if2
 sub-if2 c = search needs
 
--- src/taken.rt:46:36
 sub-if2-2 : tie.Need-sub-if2-2
 sub-if2-2 c = let k = c .before .before .before in let s = k .before .before .before .before .before in let a = s .args in let h = walked-low (a .row) (s .pre .0) (toRange (a .r)) (a .k) (a .o) (s .pre .1) (s .pre .2) _ _ _ (k .before .before .before .before .inc .ensures) (k .before .before .before .rle-len .ensures) (k .before .before .offset-of .ensures) _ (k .d .given .1) in omega (arith, h)
 
--- src/taken.rt:49:34
 sub-t17 : tie.Need-sub-t17
 sub-t17 c = search needs
 
--- src/taken.rt:49:29
 add-t18 : tie.Need-add-t18
 add-t18 c = search needs
 
--- src/taken.rt:53:33
 sub-t19 : tie.Need-sub-t19
 sub-t19 c = let k = c .before .before .before .before in let s = k .before .before .before .before .before in let a = s .args in let h = walked-low (a .row) (s .pre .0) (toRange (a .r)) (a .k) (a .o) (s .pre .1) (s .pre .2) _ _ _ (k .before .before .before .before .inc .ensures) (k .before .before .before .rle-len .ensures) (k .before .before .offset-of .ensures) _ (k .d .given .1) in omega (arith, h)
 
--- src/taken.rt:53:28
 add-t20 : tie.Need-add-t20
 add-t20 c = search needs
 
--- src/taken.rt:29:1
 returns : tie.Need-returns
 returns c = let s = c .before .before .before .before .before in let a = s .args in walked-none (a .row) (s .pre .0) (toRange (a .r)) (a .k) (a .o) (s .pre .1) (s .pre .2) _ _ _ (c .before .before .before .before .inc .ensures) (c .before .before .before .rle-len .ensures) (c .before .before .offset-of .ensures) (c .enum-told .given .1)
 
--- src/taken.rt:29:1
 returns-2 : tie.Need-returns-2
 returns-2 c = let k = c .before .before in let s = k .before .before .before .before .before in let a = s .args in walked-before (a .row) (s .pre .0) (toRange (a .r)) (a .k) (a .o) (s .pre .1) (s .pre .2) _ _ _ (k .before .before .before .before .inc .ensures) (k .before .before .before .rle-len .ensures) (k .before .before .offset-of .ensures) _ (k .d .given .1) (c .if1 .taken)
 
--- src/taken.rt:29:1
 returns-3 : tie.Need-returns-3
 returns-3 c = let k = c .before .before .before .before .before in let s = k .before .before .before .before .before in let a = s .args in walked-range (a .row) (s .pre .0) (toRange (a .r)) (a .k) (a .o) (s .pre .1) (s .pre .2) _ _ _ (k .before .before .before .before .inc .ensures) (k .before .before .before .rle-len .ensures) (k .before .before .offset-of .ensures) _ (k .d .given .1) (c .before .before .before .if1 .left) (c .before .if2 .taken)
 
--- src/taken.rt:29:1
 returns-4 : tie.Need-returns-4
 returns-4 c = let k = c .before .before .before .before in let s = k .before .before .before .before .before in let a = s .args in walked-row (a .row) (s .pre .0) (toRange (a .r)) (a .k) (a .o) (s .pre .1) (s .pre .2) _ _ _ (k .before .before .before .before .inc .ensures) (k .before .before .before .rle-len .ensures) (k .before .before .offset-of .ensures) _ (k .d .given .1) (c .before .before .if1 .left) (c .if2 .left)
 

@@ -21,47 +21,36 @@ Inv-loop t m j₀ j = (j ≤ m) × (wellRanges (ranges m t) ≡ wellRanges (drop
 abbrev μ-loop : tie.MeasureT-loop
 μ-loop t m j₀ j = m - j
 
--- src/taken.rt:108:5
 loop-holds : tie.Need-loop-holds Inv-loop μ-loop
 loop-holds c = (omega arith, refl)
 
--- src/taken.rt:109:13
 get-target-requires : tie.Need-get-target-requires Inv-loop μ-loop
 get-target-requires c κs = omega (arith, c .before .before .before .pre, c .loop-test .taken)
 
--- src/taken.rt:111:13
 returns : tie.Need-returns Inv-loop μ-loop
 returns c = let g = c .before .before in let l = g .before .before .loop in let a = g .before .before .before .before .args in sym (l .inv .1 ∙ well-turn (a .m) (a .t .now) (l .j) (g .before .loop-test .taken) _ (g .get-target .ensures) true _ _ (eq-eqb _ _ (c .if1 .taken)) refl refl)
 
--- src/taken.rt:113:13
 has-room-requires : tie.Need-has-room-requires Inv-loop μ-loop
 has-room-requires c κs = tt
 
--- src/taken.rt:114:13
 returns-2 : tie.Need-returns-2 Inv-loop μ-loop
 returns-2 c = let g = c .before .before .before .before in let l = g .before .before .loop in let a = g .before .before .before .before .args in sym (l .inv .1 ∙ well-turn (a .m) (a .t .now) (l .j) (g .before .loop-test .taken) _ (g .get-target .ensures) false false _ (ne-eqb _ _ (c .before .before .if1 .left)) (sym (c .before .has-room .ensures) ∙ not-true _ (c .if2 .taken)) refl)
 
--- src/taken.rt:116:12
 runs-into-requires : tie.Need-runs-into-requires Inv-loop μ-loop
 runs-into-requires c κs = let g = c .before .before .before .before in let s = g .before .before .before .before in (s .pre, g .before .loop-test .taken, sym (c .before .has-room .ensures) ∙ not-false _ (c .if2 .left))
 
--- src/taken.rt:117:13
 returns-3 : tie.Need-returns-3 Inv-loop μ-loop
 returns-3 c = let g = c .before .before .before .before .before .before in let l = g .before .before .loop in let a = g .before .before .before .before .args in sym (l .inv .1 ∙ well-turn (a .m) (a .t .now) (l .j) (g .before .loop-test .taken) _ (g .get-target .ensures) false true true (ne-eqb _ _ (c .before .before .before .before .if1 .left)) (sym (c .before .before .before .has-room .ensures) ∙ not-false _ (c .before .before .if2 .left)) (sym (c .before .runs-into .ensures) ∙ c .if3 .taken))
 
--- src/taken.rt:119:9
 add-j : tie.Need-add-j Inv-loop μ-loop
 add-j c = let g = c .before .before .before .before .before .before in omega (arith, g .before .loop-test .taken)
 
--- src/taken.rt:108:5
 loop-less : tie.Need-loop-less Inv-loop μ-loop
 loop-less c = let g = c .before .before .before .before .before .before in omega (arith, g .before .loop-test .taken)
 
--- src/taken.rt:108:5
 loop-again : tie.Need-loop-again Inv-loop μ-loop
 loop-again c = let g = c .before .before .before .before .before .before in let l = g .before .before .loop in let a = g .before .before .before .before .args in (omega (arith, g .before .loop-test .taken), l .inv .1 ∙ well-turn (a .m) (a .t .now) (l .j) (g .before .loop-test .taken) _ (g .get-target .ensures) false true false (ne-eqb _ _ (c .before .before .before .before .if1 .left)) (sym (c .before .before .before .has-room .ensures) ∙ not-false _ (c .before .before .if2 .left)) (sym (c .before .runs-into .ensures) ∙ c .if3 .left))
 
--- src/taken.rt:103:1
 returns-4 : tie.Need-returns-4 Inv-loop μ-loop
 returns-4 c = let l = c .before .loop in let a = c .before .before .before .args in sym (l .inv .1 ∙ well-done (a .m) (a .t .now) (l .j) (c .loop-test .left))
 
