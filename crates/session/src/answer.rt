@@ -1,4 +1,7 @@
 // A line's answer: the call is found, what is lent is cut out, and who answers is asked.
+ghost use mathlib.Core.Path.{_≡_};
+ghost use Rattle.session.specs.Lines.{okLines, errorLines};
+ghost use Rattle.session.specs.Sessions.{bytesFor, Answered, OpenedIn};
 use crate::calls;
 use crate::history;
 use crate::look;
@@ -14,12 +17,16 @@ use text::parts::before;
 use text::parts::trim;
 
 // The bytes of a header and so many rows.
-fn bytes_of(rows: u32) -> usize {
+fn bytes_of(rows: u32) -> usize
+    ensures { λ r. ⌜ r ≡ bytesFor rows ⌝ }
+{
     72 + 72 * (rows as usize)
 }
 
 // The end of an opening: where it was refused, what was open stays.
-fn opened(s: Session, what: Open, code: u8, text: &mut [u8]) -> Session {
+fn opened(s: Session, what: Open, code: u8, text: &mut [u8]) -> Session
+    ensures { λ r. ⌜ OpenedIn s what code (now (text .entry)) r (now (text .exit)) ⌝ }
+{
     let s = s.said(reply::done(text, s.at, code));
     if code == 0 { s.opened(what) } else { s }
 }
@@ -59,11 +66,15 @@ fn open_history(
     opened(s, Open::History, code, text)
 }
 
-fn error(s: Session, text: &mut [u8]) -> Session {
+fn error(s: Session, text: &mut [u8]) -> Session
+    ensures { λ r. ⌜ Answered s errorLines (now (text .entry)) r (now (text .exit)) ⌝ }
+{
     s.said(reply::error(text, s.at))
 }
 
-fn ok(s: Session, text: &mut [u8]) -> Session {
+fn ok(s: Session, text: &mut [u8]) -> Session
+    ensures { λ r. ⌜ Answered s okLines (now (text .entry)) r (now (text .exit)) ⌝ }
+{
     s.said(reply::ok(text, s.at))
 }
 

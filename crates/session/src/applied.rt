@@ -1,4 +1,15 @@
 // The delta between two versions of a history, printed, or applied to the list by the applier. Columns and the old list are lent for one call.
+ghost use lib.ListN.{length, take};
+ghost use Rattle.rope.specs.Columns.{least};
+ghost use Rattle.apply.specs.Called.{Called, deltaItems, deltaCode};
+ghost use Rattle.tracker.specs.Entries.{versionOf};
+ghost use Rattle.tracker.specs.Between.{Deltas};
+ghost use Rattle.script.specs.Field.{wordOf};
+ghost use Rattle.session.specs.Say.{Says};
+ghost use Rattle.session.specs.Entries.{lentEntries, itemAt, listedLines, answerLines};
+ghost use Rattle.session.specs.Columns.{wordPeers, wordCounts};
+ghost use Rattle.session.specs.History.{Tells};
+ghost use Rattle.session.specs.Applied.{onListItems, onListCode, AppliesIn, Applies};
 use crate::entries;
 use crate::entries::most;
 use crate::front::front_items;
@@ -26,7 +37,9 @@ fn delta_into(
     peer: &mut [u64],
     counter: &mut [u32],
     lamport: &mut [u32],
-) -> DiffAnswer {
+) -> DiffAnswer
+    ensures { λ r. ⌜ Deltas (now (s .entry)) (now (t .entry)) (now (e .entry)) (versionOf (wordPeers (wordOf (now (line .entry)) 1)) (wordCounts (wordOf (now (line .entry)) 1))) (versionOf (wordPeers (wordOf (now (line .entry)) 2)) (wordCounts (wordOf (now (line .entry)) 2))) (least (length (now (kind .entry))) (length (now (a .entry))) (length (now (b .entry))) (length (now (peer .entry))) (length (now (counter .entry))) (length (now (lamport .entry)))) r (now (s .exit)) (now (kind .entry)) (now (a .entry)) (now (b .entry)) (now (peer .entry)) (now (counter .entry)) (now (lamport .entry)) (now (kind .exit)) (now (a .exit)) (now (b .exit)) (now (peer .exit)) (now (counter .exit)) (now (lamport .exit)) ⌝ }
+{
     let mut from_peers = [0u64; 32];
     let mut from_counts = [0u32; 32];
     let n = columns(word(line, 1), &mut from_peers, &mut from_counts);
@@ -64,7 +77,9 @@ fn print_delta(
     lamport: &mut [u32],
     text: &mut [u8],
     at: usize,
-) -> usize {
+) -> usize
+    ensures { λ r. ⌜ Tells (least (length (now (kind .entry))) (length (now (a .entry))) (length (now (b .entry))) (length (now (peer .entry))) (length (now (counter .entry))) (length (now (lamport .entry)))) (wordOf (now (line .entry)) 1) (wordOf (now (line .entry)) 2) (now (s .entry)) (now (t .entry)) (now (e .entry)) at (now (text .entry)) r (now (s .exit)) (now (text .exit)) ⌝ }
+{
     match delta_into(line, s, t, e, kind, a, b, peer, counter, lamport) {
         DiffAnswer::Done(n) => entries::entries(kind, a, b, peer, counter, lamport, n, text, at),
         DiffAnswer::Refused(code) => reply::refused(text, at, code),
@@ -80,7 +95,9 @@ pub fn delta(
     room: usize,
     text: &mut [u8],
     at: usize,
-) -> usize {
+) -> usize
+    ensures { λ r. ⌜ Tells (lentEntries room) (wordOf (now (line .entry)) 1) (wordOf (now (line .entry)) 2) (now (s .entry)) (now (t .entry)) (now (e .entry)) at (now (text .entry)) r (now (s .exit)) (now (text .exit)) ⌝ }
+{
     let n = most(room);
     let mut kind = [0u8; 8192];
     let mut a = [0u32; 8192];
@@ -106,7 +123,9 @@ pub fn delta(
 
 // ---- The delta applied
 
-fn item(out: &[u8], i: usize, text: &mut [u8], at: usize) -> usize {
+fn item(out: &[u8], i: usize, text: &mut [u8], at: usize) -> usize
+    ensures { λ r. ⌜ Says at (itemAt (now (out .entry)) i) (now (text .entry)) r (now (text .exit)) ⌝ }
+{
     if i < out.len() / 24 {
         let x = get_item(out, i);
         reply::item(text, at, x.id, x.content)
@@ -116,7 +135,9 @@ fn item(out: &[u8], i: usize, text: &mut [u8], at: usize) -> usize {
 }
 
 // The n items at the front.
-fn items(out: &[u8], n: usize, text: &mut [u8], start: usize) -> usize {
+fn items(out: &[u8], n: usize, text: &mut [u8], start: usize) -> usize
+    ensures { λ r. ⌜ Says start (listedLines (now (out .entry)) n) (now (text .entry)) r (now (text .exit)) ⌝ }
+{
     let mut at = reply::counted(text, start, b"list", n as u64);
     let mut i = 0;
     while i < n {
@@ -137,7 +158,9 @@ fn apply_entries(
     n: usize,
     old: &[u8],
     out: &mut [u8],
-) -> ApplyAnswer {
+) -> ApplyAnswer
+    ensures { λ r. ⌜ Called (deltaCode (take n (now (kind .entry))) (take n (now (a .entry))) (take n (now (b .entry))) (take n (now (peer .entry))) (take n (now (counter .entry))) (take n (now (lamport .entry))) (now (old .entry)) (now (out .entry))) (deltaItems (take n (now (kind .entry))) (take n (now (a .entry))) (take n (now (b .entry))) (take n (now (peer .entry))) (take n (now (counter .entry))) (take n (now (lamport .entry))) (now (old .entry))) (now (out .entry)) r (now (out .exit)) ⌝ }
+{
     apply::delta::apply(
         front8(kind, n),
         front32(a, n),
@@ -150,7 +173,9 @@ fn apply_entries(
     )
 }
 
-fn listed(r: ApplyAnswer, out: &[u8], text: &mut [u8], at: usize) -> usize {
+fn listed(r: ApplyAnswer, out: &[u8], text: &mut [u8], at: usize) -> usize
+    ensures { λ x. ⌜ Says at (answerLines r (now (out .entry))) (now (text .entry)) x (now (text .exit)) ⌝ }
+{
     match r {
         ApplyAnswer::Done(n) => items(out, n, text, at),
         ApplyAnswer::Refused(code) => reply::refused(text, at, code),
@@ -168,7 +193,9 @@ fn apply_to_list(
     lamport: &[u32],
     n: usize,
     out: &mut [u8],
-) -> ApplyAnswer {
+) -> ApplyAnswer
+    ensures { λ r. ⌜ Called (onListCode (take n (now (kind .entry))) (take n (now (a .entry))) (take n (now (b .entry))) (take n (now (peer .entry))) (take n (now (counter .entry))) (take n (now (lamport .entry))) (now (s .entry)) (now (out .entry))) (onListItems (take n (now (kind .entry))) (take n (now (a .entry))) (take n (now (b .entry))) (take n (now (peer .entry))) (take n (now (counter .entry))) (take n (now (lamport .entry))) (now (s .entry))) (now (out .entry)) r (now (out .exit)) ⌝ }
+{
     let mut old = [0u8; 589824];
     match apply::visible::visible_items(s, &mut old) {
         ApplyAnswer::Done(m) => apply_entries(
@@ -199,7 +226,9 @@ fn apply_delta(
     counter: &mut [u32],
     lamport: &mut [u32],
     out: &mut [u8],
-) -> ApplyAnswer {
+) -> ApplyAnswer
+    ensures { λ r. ⌜ AppliesIn (least (length (now (kind .entry))) (length (now (a .entry))) (length (now (b .entry))) (length (now (peer .entry))) (length (now (counter .entry))) (length (now (lamport .entry)))) (wordOf (now (line .entry)) 1) (wordOf (now (line .entry)) 2) (now (s .entry)) (now (t .entry)) (now (e .entry)) (now (out .entry)) r (now (s .exit)) (now (out .exit)) ⌝ }
+{
     match delta_into(line, s, t, e, kind, a, b, peer, counter, lamport) {
         DiffAnswer::Done(n) => apply_to_list(s, kind, a, b, peer, counter, lamport, n, out),
         DiffAnswer::Refused(code) => ApplyAnswer::Refused(code),
@@ -214,7 +243,9 @@ fn with_columns(
     e: &[u8],
     room: usize,
     out: &mut [u8],
-) -> ApplyAnswer {
+) -> ApplyAnswer
+    ensures { λ r. ⌜ AppliesIn (lentEntries room) (wordOf (now (line .entry)) 1) (wordOf (now (line .entry)) 2) (now (s .entry)) (now (t .entry)) (now (e .entry)) (now (out .entry)) r (now (s .exit)) (now (out .exit)) ⌝ }
+{
     let n = most(room);
     let mut kind = [0u8; 8192];
     let mut a = [0u32; 8192];
@@ -246,9 +277,11 @@ pub fn applied(
     out: &mut [u8],
     text: &mut [u8],
     at: usize,
-) -> usize {
+) -> usize
+    ensures { λ r. ⌜ Applies (wordOf (now (line .entry)) 1) (wordOf (now (line .entry)) 2) (now (s .entry)) (now (t .entry)) (now (e .entry)) (now (out .entry)) at (now (text .entry)) r (now (s .exit)) (now (out .exit)) (now (text .exit)) ⌝ }
+{
     let room = out.len() / 72;
-    let n = reply::within(room * 24, out);
+    let n = room * 24;
     let r = with_columns(line, s, t, e, room, &mut out[..n]);
     listed(r, out, text, at)
 }

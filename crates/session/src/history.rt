@@ -1,4 +1,7 @@
 // The calls of a history, each with its answer. A context or version is word 1 of the line; a delta's versions are words 1 and 2.
+ghost use mathlib.Core.Path.{_≡_};
+ghost use Rattle.session.specs.History.{Arrives, Goes};
+ghost use Rattle.session.specs.HistoryCalls.{insertHead, deleteHead, HistorySays};
 use crate::applied;
 use crate::front::front32;
 use crate::front::front64;
@@ -11,7 +14,9 @@ use script::field::word;
 use tracker::row::Does;
 use tracker::row::Head;
 
-fn inserting(x: Insert) -> Head {
+fn inserting(x: Insert) -> Head
+    ensures { λ r. ⌜ r ≡ insertHead x ⌝ }
+{
     let id = x.id;
     let content = x.content;
     Head {
@@ -21,7 +26,9 @@ fn inserting(x: Insert) -> Head {
     }
 }
 
-fn deleting(x: Arriving) -> Head {
+fn deleting(x: Arriving) -> Head
+    ensures { λ r. ⌜ r ≡ deleteHead x ⌝ }
+{
     let id = x.id;
     let d = x.delete;
     let start = d.start;
@@ -41,7 +48,9 @@ fn arrive(
     e: &mut [u8],
     text: &mut [u8],
     at: usize,
-) -> usize {
+) -> usize
+    ensures { λ r. ⌜ Arrives x (now (w .entry)) (now (s .entry)) (now (t .entry)) (now (e .entry)) at (now (text .entry)) r (now (s .exit)) (now (t .exit)) (now (e .exit)) (now (text .exit)) ⌝ }
+{
     let mut peers = [0u64; 32];
     let mut counts = [0u32; 32];
     let n = columns(w, &mut peers, &mut counts);
@@ -50,7 +59,9 @@ fn arrive(
 }
 
 // The list goes to the version in w.
-fn checkout(w: &[u8], s: &mut [u8], t: &[u8], e: &[u8], text: &mut [u8], at: usize) -> usize {
+fn checkout(w: &[u8], s: &mut [u8], t: &[u8], e: &[u8], text: &mut [u8], at: usize) -> usize
+    ensures { λ r. ⌜ Goes (now (w .entry)) (now (s .entry)) (now (t .entry)) (now (e .entry)) at (now (text .entry)) r (now (s .exit)) (now (text .exit)) ⌝ }
+{
     let mut peers = [0u64; 32];
     let mut counts = [0u32; 32];
     let n = columns(w, &mut peers, &mut counts);
@@ -67,7 +78,9 @@ pub fn call(
     out: &mut [u8],
     text: &mut [u8],
     at: usize,
-) -> usize {
+) -> usize
+    ensures { λ r. ⌜ HistorySays c (now (line .entry)) (now (s .entry)) (now (t .entry)) (now (e .entry)) (now (out .entry)) at (now (text .entry)) r (now (s .exit)) (now (t .exit)) (now (e .exit)) (now (out .exit)) (now (text .exit)) ⌝ }
+{
     match c {
         HistoryCall::Insert(x) => arrive(inserting(x), word(line, 1), s, t, e, text, at),
         HistoryCall::Delete(x) => arrive(deleting(x), word(line, 1), s, t, e, text, at),

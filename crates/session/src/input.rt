@@ -1,4 +1,10 @@
 // What is read, cut into lines.
+ghost use mathlib.Core.Path.{_≡_};
+ghost use Prim.Native.Nat.{_≤_};
+ghost use lib.ListN.{length};
+ghost use Rattle.words.specs.Le.{put};
+ghost use Rattle.text.specs.Parts.{after};
+ghost use Rattle.session.specs.Input.{between, held, hasLine, pastLine, pastFirst, ReadBehind, Refilled};
 use crate::answer;
 use crate::reply;
 use crate::state::Session;
@@ -26,7 +32,9 @@ pub struct Filled {
 
 impl Reader {
     // Past a line of n bytes and its end.
-    fn past(self, n: usize) -> Self {
+    fn past(self, n: usize) -> Self
+        ensures { λ r. ⌜ r ≡ pastLine self n ⌝ }
+    {
         if self.from < self.to {
             if n < self.to - self.from {
                 return Reader {
@@ -44,19 +52,24 @@ impl Reader {
     }
 }
 
-fn unread(bytes: &[u8], r: Reader) -> &[u8] {
+fn unread(bytes: &[u8], r: Reader) -> &[u8]
+    ensures { λ x. ⌜ now x ≡ held (now (bytes .entry)) r ⌝ }
+{
     let from = r.from;
     let to = r.to;
-    if to <= bytes.len() {
-        if from <= to {
-            return &bytes[from..to];
-        }
+    if bytes.len() < to {
+        return &bytes[..0];
     }
-    &bytes[..0]
+    if to < from {
+        return &bytes[..0];
+    }
+    &bytes[from..to]
 }
 
 // Whether a line's end is held.
-fn has_line(bytes: &[u8], r: Reader) -> bool {
+fn has_line(bytes: &[u8], r: Reader) -> bool
+    ensures { λ x. ⌜ x ≡ hasLine (held (now (bytes .entry)) r) ⌝ }
+{
     let held = unread(bytes, r);
     find(held, b'\n') < held.len()
 }
@@ -71,7 +84,9 @@ fn next_line(
     edits: &mut [u8],
     out: &mut [u8],
     text: &mut [u8],
-) -> Turn {
+) -> Turn
+    ensures { λ x. ⌜ (x .reader ≡ pastFirst (now (bytes .entry)) r) × (held (now (bytes .entry)) (x .reader) ≡ after 10 (held (now (bytes .entry)) r)) ⌝ }
+{
     let held = unread(bytes, r);
     let n = find(held, b'\n');
     let s = answer::line(
@@ -112,22 +127,22 @@ fn last_line(
 }
 
 // Moves the bytes from..to to the front, and answers how many they are.
-fn to_front(bytes: &mut [u8], from: usize, to: usize) -> usize {
-    if bytes.len() < to {
-        return 0;
+fn to_front(bytes: &mut [u8], from: usize, to: usize) -> usize
+    ensures { λ r. ⌜ (r ≡ length (between (now (bytes .entry)) from to)) × (now (bytes .exit) ≡ put 0 (between (now (bytes .entry)) from to) (now (bytes .entry))) ⌝ }
+{
+    if to <= bytes.len() {
+        if from <= to {
+            words::shift::down(bytes, 0, to - from, from);
+            return to - from;
+        }
     }
-    let mut i = 0;
-    let mut k = from;
-    while k < to {
-        bytes[i] = bytes[k];
-        i += 1;
-        k += 1;
-    }
-    i
+    0
 }
 
 // Reads behind what is held; a line that fills the buffer is dropped, and answered `error` at its end.
-fn fill(fd: i32, r: Reader, bytes: &mut [u8]) -> Filled {
+fn fill(fd: i32, r: Reader, bytes: &mut [u8]) -> Filled
+    ensures { λ x. ⌜ Refilled (now (bytes .entry)) r x (now (bytes .exit)) ⌝ }
+{
     let held = to_front(bytes, r.from, r.to);
     if held < bytes.len() {
         read_behind(fd, held, r.cut, bytes)
@@ -136,7 +151,9 @@ fn fill(fd: i32, r: Reader, bytes: &mut [u8]) -> Filled {
     }
 }
 
-fn read_behind(fd: i32, held: usize, cut: bool, bytes: &mut [u8]) -> Filled {
+fn read_behind(fd: i32, held: usize, cut: bool, bytes: &mut [u8]) -> Filled
+    ensures { λ x. ⌜ ReadBehind held cut (now (bytes .entry)) x (now (bytes .exit)) ⌝ }
+{
     if bytes.len() < held {
         return Filled {
             reader: Reader {
@@ -158,7 +175,9 @@ fn read_behind(fd: i32, held: usize, cut: bool, bytes: &mut [u8]) -> Filled {
     }
 }
 
-fn read_some(fd: i32, bytes: &mut [u8]) -> usize {
+fn read_some(fd: i32, bytes: &mut [u8]) -> usize
+    ensures { λ r. ⌜ r ≤ length (now (bytes .entry)) ⌝ }
+{
     let got = libc::read(fd, bytes);
     io::count(got, bytes)
 }

@@ -1,4 +1,7 @@
 // What a session remembers between calls, beside the lent bytes.
+ghost use mathlib.Core.Path.{_≡_};
+ghost use Rattle.session.specs.Sessions.{newSession, saidTo, withRoom, withTargets, withOut, openedAs};
+
 pub enum Open {
     Nothing,
     Rope,
@@ -20,7 +23,9 @@ pub struct Session {
 
 impl Session {
     // Nothing is open, and everything is lent.
-    pub fn new() -> Self {
+    pub fn new() -> Self
+        ensures { λ r. ⌜ r ≡ newSession ⌝ }
+    {
         Session {
             open: Open::Nothing,
             lent: 0,
@@ -33,28 +38,38 @@ impl Session {
     }
 
     // More of the answer is written.
-    pub fn said(mut self, at: usize) -> Self {
+    pub fn said(mut self, at: usize) -> Self
+        ensures { λ r. ⌜ r ≡ saidTo self at ⌝ }
+    {
         self.at = at;
         self
     }
 
-    pub fn with_room(mut self, n: u32) -> Self {
+    pub fn with_room(mut self, n: u32) -> Self
+        ensures { λ r. ⌜ r ≡ withRoom self n ⌝ }
+    {
         self.room = n;
         self
     }
 
-    pub fn with_targets(mut self, n: u32) -> Self {
+    pub fn with_targets(mut self, n: u32) -> Self
+        ensures { λ r. ⌜ r ≡ withTargets self n ⌝ }
+    {
         self.targets = n;
         self
     }
 
-    pub fn with_out(mut self, n: u32) -> Self {
+    pub fn with_out(mut self, n: u32) -> Self
+        ensures { λ r. ⌜ r ≡ withOut self n ⌝ }
+    {
         self.out = n;
         self
     }
 
     // A rope or a history is open in the room that was said.
-    pub fn opened(self, what: Open) -> Self {
+    pub fn opened(self, what: Open) -> Self
+        ensures { λ r. ⌜ r ≡ openedAs self what ⌝ }
+    {
         Session {
             open: what,
             lent: self.room,

@@ -1,5 +1,7 @@
 use lib.Seq.{length-take-le}
-use mathlib.Core.Path.{sym}
+use mathlib.Core.Path.{sym, _∙_}
+use Rattle.session.proofs.EntriesLaws.{lent}
+use Rattle.session.proofs.AppliedLaws.{applies-as}
 use borrow.Author.Needs.{needs}
 use Rattle.session.proofs.applied.with_columns.Statement.{statement}
 use Rattle.session.proofs.applied.with_columns.Tie as tie
@@ -57,7 +59,7 @@ same-length-2 : tie.Need-same-length-2
 same-length-2 c = search needs
 
 returns : tie.Need-returns
-returns c = search needs
+returns c = applies-as _ _ _ _ _ _ (lent (length-take-le _ _ (search needs)) (length-take-le _ _ (search needs)) (length-take-le _ _ (search needs)) (length-take-le _ _ (search needs)) (length-take-le _ _ (search needs)) (length-take-le _ _ (search needs)) ∙ c .before .before .before .before .before .before .before .before .before .before .before .before .before .before .before .before .before .before .before .most .ensures .0) (c .before .before .before .before .before .before .before .before .before .before .apply-delta .ensures)
 
 pub with-columns-spec : {M : Type 1} → statement M
 with-columns-spec =

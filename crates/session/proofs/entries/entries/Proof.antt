@@ -1,8 +1,14 @@
+use Prim.Native.Nat.{_≤_, _-_}
+use mathlib.Core.Path.{_≡_, refl}
+use mathlib.Core.List.{[], _∷_}
 use lib.ListN.{length}
-use borrow.Author.Needs.{needs}
 use native.Mathlib.Omega.{arith}
-use mathlib.Core.Path.{_≡_}
-use Prim.Native.Nat.{_-_}
+use borrow.Author.Needs.{needs}
+use Rattle.text.specs.Ascii.{ascii}
+use Rattle.script.specs.Print.{headLine}
+use Rattle.session.specs.Say.{Says, upTo}
+use Rattle.session.specs.Entries.{entryAt}
+use Rattle.session.proofs.SayLaws.{says-first, says-next, says-then}
 use Rattle.session.proofs.entries.entries.Statement.{statement}
 use Rattle.session.proofs.entries.entries.Tie as tie
 use Rattle.session.proofs.entries.entries.Reads as reads
@@ -12,7 +18,8 @@ use Rattle.session.proofs.entries.numbers_at.Reads as numbers-at-reads
 use Rattle.session.proofs.reply.counted.Reads as counted-reads
 
 abbrev Inv-loop : tie.InvT-loop
-Inv-loop kind a b peer counter lamport n text₀ start at₀ i₀ text at i = length text ≡ length text₀
+Inv-loop kind a b peer counter lamport n text₀ start at₀ i₀ text at i =
+    (i ≤ n) × (length text ≡ length text₀) × Says at₀ (upTo (entryAt kind a b peer counter lamport) i) text₀ at text
 
 abbrev μ-loop : tie.MeasureT-loop
 μ-loop kind a b peer counter lamport n text₀ start at₀ i₀ text at i = n - i
@@ -24,7 +31,7 @@ counted-requires : tie.Need-counted-requires Inv-loop μ-loop
 counted-requires c κs = tt
 
 loop-holds : tie.Need-loop-holds Inv-loop μ-loop
-loop-holds c = search needs
+loop-holds c = (omega arith, refl, says-first _ _ _)
 
 numbers-at-requires : tie.Need-numbers-at-requires Inv-loop μ-loop
 numbers-at-requires c κs = tt
@@ -39,13 +46,15 @@ loop-less : tie.Need-loop-less Inv-loop μ-loop
 loop-less c = omega arith
 
 loop-again : tie.Need-loop-again Inv-loop μ-loop
-loop-again c = search needs
+loop-again c = let l = c .before .before .before .before .before .before .loop in (omega arith, search needs, says-next _ _ (l .i) _ (l .inv .2) (rw (c .before .before .before .before .numbers-at .ensures) at (c .before .before .entry .ensures)))
 
 same-length : tie.Need-same-length Inv-loop μ-loop
 same-length c = search needs
 
 returns : tie.Need-returns Inv-loop μ-loop
-returns c = tt
+returns c = let l = c .before .loop in let a = c .before .before .before .before .before .before .before .before .before .before .before .before .before .before .args in
+    let e : l .i ≡ a .n = omega arith in
+    says-then (a .start) (headLine (ascii "entries") (a .n) ∷ []) (upTo (entryAt (a .kind .now) (a .a .now) (a .b .now) (a .peer .now) (a .counter .now) (a .lamport .now)) (a .n)) (a .text .now) (c .before .before .before .before .counted .ensures) (rw e at (l .inv .2))
 
 pub entries-spec : {M : Type 1} → statement M
 entries-spec =

@@ -1,4 +1,5 @@
-use lib.Seq.{length-take-le}
+use Prim.Native.Nat.{_*_}
+use lib.Seq.{length-take-le, take-all}
 use mathlib.Core.Path.{sym}
 use native.Mathlib.Omega.{arith}
 use borrow.Author.Needs.{needs}
@@ -17,7 +18,7 @@ returns : tie.Need-returns
 returns c = search needs
 
 returns-2 : tie.Need-returns-2
-returns-2 c = search needs
+returns-2 c = let a = c .before .args in sym (take-all (a .n * 24) (a .list .now) (omega arith))
 
 pub front-items-spec : {M : Type 1} → statement M
 front-items-spec = tie.close (tie.spec mul-result slice-aggregate-result returns returns-2)

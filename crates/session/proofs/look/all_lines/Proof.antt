@@ -1,20 +1,19 @@
+use Prim.Native.Nat.{_-_, _%_, _^_, _≤_}
 use native.Mathlib.Omega.{arith}
-use Prim.Native.Nat.{_-_}
+use mathlib.Core.Path.{_≡_}
+use Rattle.session.specs.Lines.{rowsCount}
+use Rattle.session.proofs.LinesLaws.{count-first, count-next}
 use Rattle.session.proofs.look.all_lines.Statement.{statement}
 use Rattle.session.proofs.look.all_lines.Tie as tie
-use Rattle.session.proofs.look.all_lines.Reads as reads
-use Rattle.session.proofs.look.all_lines.Lts as lts
-use Rattle.session.proofs.look.lines_at.Reads as lines-at-reads
-use Rattle.std.proofs.num.wrapping_add_u64.Reads as wrapping-add-u64-reads
 
 abbrev Inv-loop : tie.InvT-loop
-Inv-loop kind s n sum₀ i₀ sum i = Unit {0}
+Inv-loop kind s n sum₀ i₀ sum i = (i ≤ n) × (sum ≡ rowsCount kind s i % 2 ^ 64)
 
 abbrev μ-loop : tie.MeasureT-loop
 μ-loop kind s n sum₀ i₀ sum i = n - i
 
 loop-holds : tie.Need-loop-holds Inv-loop μ-loop
-loop-holds c = tt
+loop-holds c = let a = c .before .args in (omega arith, count-first (a .kind) (a .s .now))
 
 lines-at-requires : tie.Need-lines-at-requires Inv-loop μ-loop
 lines-at-requires c κs = tt
@@ -29,10 +28,10 @@ loop-less : tie.Need-loop-less Inv-loop μ-loop
 loop-less c = omega arith
 
 loop-again : tie.Need-loop-again Inv-loop μ-loop
-loop-again c = tt
+loop-again c = let a = c .before .before .before .before .before .args in (omega arith, count-next (a .kind) (a .s .now) (c .before .before .before .loop .i) (c .before .before .before .loop .inv .1) (c .before .lines-at .ensures) (c .wrapping-add-u64 .ensures))
 
 returns : tie.Need-returns Inv-loop μ-loop
-returns c = tt
+returns c = let a = c .before .before .before .args in let e : a .n ≡ c .before .loop .i = omega arith in rw e (c .before .loop .inv .1)
 
 pub all-lines-spec : {M : Type 1} → statement M
 all-lines-spec =

@@ -1,21 +1,21 @@
-use lib.ListN.{length}
-use borrow.Author.Needs.{needs}
+use Prim.Native.Nat.{_-_, _≤_, _<_}
 use native.Mathlib.Omega.{arith}
-use Prim.Native.Nat.{_-_, _<_}
+use mathlib.Core.Path.{_≡_, refl, sym, _∙_}
+use lib.ListN.{length, drop}
+use borrow.Author.Needs.{needs}
+use Rattle.session.specs.Lines.{sumOn, sumFrom}
+use Rattle.session.proofs.LinesLaws.{sum-next, sum-last}
 use Rattle.session.proofs.look.sum_from.Statement.{statement}
 use Rattle.session.proofs.look.sum_from.Tie as tie
-use Rattle.session.proofs.look.sum_from.Reads as reads
-use Rattle.session.proofs.look.sum_from.Lts as lts
-use Rattle.words.proofs.wide.Reads as wide-reads
 
 abbrev Inv-loop : tie.InvT-loop
-Inv-loop s start sum₀ i₀ sum i = sum < 4294967291
+Inv-loop s start sum₀ i₀ sum i = (sum < 4294967291) × (i ≤ length s) × (sumOn sum (drop i s) ≡ sumFrom start s)
 
 abbrev μ-loop : tie.MeasureT-loop
 μ-loop s start sum₀ i₀ sum i = length s - i
 
 loop-holds : tie.Need-loop-holds Inv-loop μ-loop
-loop-holds c = search needs
+loop-holds c = (search needs, omega arith, refl)
 
 mul-sum : tie.Need-mul-sum Inv-loop μ-loop
 mul-sum c = omega arith
@@ -36,10 +36,10 @@ loop-less : tie.Need-loop-less Inv-loop μ-loop
 loop-less c = omega arith
 
 loop-again : tie.Need-loop-again Inv-loop μ-loop
-loop-again c = search needs
+loop-again c = let a = c .before .before .before .before .before .args in let h : c .before .before .before .loop .i < length (a .s .now) = omega arith in (search needs, omega arith, rw (c .wide .ensures .0) (sym (sum-next (a .s .now) (c .before .before .before .loop .i) (c .before .before .before .loop .sum) h) ∙ c .before .before .before .loop .inv .2))
 
 returns : tie.Need-returns Inv-loop μ-loop
-returns c = tt
+returns c = let a = c .before .before .before .args in sym (sum-last (a .s .now) (c .before .loop .i) (c .before .loop .sum) (c .loop-test .left)) ∙ c .before .loop .inv .2
 
 pub sum-from-spec : {M : Type 1} → statement M
 sum-from-spec =

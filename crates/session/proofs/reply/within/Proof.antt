@@ -4,8 +4,6 @@ use native.Mathlib.Omega.{arith}
 use mathlib.Core.Path.{sym, ap}
 use Rattle.session.proofs.reply.within.Statement.{statement}
 use Rattle.session.proofs.reply.within.Tie as tie
-use Rattle.session.proofs.reply.within.Reads as reads
-use Rattle.session.proofs.reply.within.Lts as lts
 
 returns : tie.Need-returns
 returns c = let a = c .before .args in (omega arith, sym (length-take-le (a .n) (a .buffer .now) (omega arith)))

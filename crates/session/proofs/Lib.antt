@@ -1,0 +1,11 @@
+pub mod SayLaws
+pub mod ColumnsLaws
+pub mod InputLaws
+pub mod EntriesLaws
+pub mod HistoryLaws
+pub mod LinesLaws
+pub mod CallsLaws
+pub mod AppliedLaws
+pub mod ShortLaws
+pub mod ListLaws
+pub mod WordLaws

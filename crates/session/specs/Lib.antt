@@ -1,0 +1,11 @@
+pub mod Say
+pub mod Columns
+pub mod Input
+pub mod Entries
+pub mod History
+pub mod Lines
+pub mod Calls
+pub mod Applied
+pub mod Listed
+pub mod Sessions
+pub mod HistoryCalls
