@@ -1,4 +1,5 @@
-// Questions to a store and the merge of a run of edits, exported for the benchmarks in tests/bench: their programs own the memory.
+// Questions to a store and the calls of a history, exported for the programs in tests/: they own the memory.
+use rope::diff::DiffAnswer;
 use rope::find::Found;
 use rope::query::LenAnswer;
 use rope::query::RealAnswer;
@@ -56,4 +57,95 @@ pub extern "C" fn bench_open_with(s: &mut [u8], t: &[u8], e: &mut [u8], n: u32) 
 pub extern "C" fn bench_arrive_all(s: &mut [u8], t: &mut [u8], e: &mut [u8], rows: &[u8]) -> u64 {
     let run = tracker::run::arrive_all(s, t, e, rows);
     ((run.taken as u64) << 8) | (run.code as u64)
+}
+
+// The edit whose head stands in a row arrives, its context in columns: 0 or the number of the refusal; 255 where the row is too short.
+#[no_mangle]
+pub extern "C" fn bench_arrive(
+    s: &mut [u8],
+    t: &mut [u8],
+    e: &mut [u8],
+    row: &[u8],
+    peers: &[u64],
+    counts: &[u32],
+) -> u8 {
+    if row.len() < 64 {
+        return 255;
+    }
+    let x = tracker::row::get_head(row);
+    tracker::arrive::arrive(s, t, e, x, peers, counts)
+}
+
+// The list goes to a version: 0 or the number of the refusal.
+#[no_mangle]
+pub extern "C" fn bench_checkout(
+    s: &mut [u8],
+    t: &[u8],
+    e: &[u8],
+    peers: &[u64],
+    counts: &[u32],
+) -> u8 {
+    tracker::checkout::checkout(s, t, e, peers, counts)
+}
+
+// Opens a history without a placeholder: 0 or the number of the refusal.
+#[no_mangle]
+pub extern "C" fn bench_open(s: &mut [u8], t: &[u8], e: &mut [u8]) -> u8 {
+    tracker::open::open(s, t, e)
+}
+
+// The visible length of a history's list, times 256, or the number of the refusal.
+#[no_mangle]
+pub extern "C" fn bench_history_len(s: &[u8], t: &[u8], e: &[u8]) -> u64 {
+    match tracker::query::visible_len(s, t, e) {
+        LenAnswer::Done(n) => (n as u64) << 8,
+        LenAnswer::Refused(code) => code as u64,
+    }
+}
+
+// The units left in the span at a visible position, times 256, or the number of the refusal; 255 for nothing.
+#[no_mangle]
+pub extern "C" fn bench_history_at(s: &[u8], t: &[u8], e: &[u8], pos: u32) -> u64 {
+    match tracker::query::active_real_span_at(s, t, e, pos) {
+        RealAnswer::At(_, left) => (left as u64) << 8,
+        RealAnswer::Nothing => 255,
+        RealAnswer::Refused(code) => code as u64,
+    }
+}
+
+// The delta between two versions into columns: how many entries, times 256, or the number of the refusal.
+#[no_mangle]
+pub extern "C" fn bench_delta(
+    s: &mut [u8],
+    t: &[u8],
+    e: &[u8],
+    from_peers: &[u64],
+    from_counts: &[u32],
+    to_peers: &[u64],
+    to_counts: &[u32],
+    kind: &mut [u8],
+    x: &mut [u32],
+    y: &mut [u32],
+    peer: &mut [u64],
+    counter: &mut [u32],
+    lamport: &mut [u32],
+) -> u64 {
+    match tracker::delta::delta(
+        s,
+        t,
+        e,
+        from_peers,
+        from_counts,
+        to_peers,
+        to_counts,
+        kind,
+        x,
+        y,
+        peer,
+        counter,
+        lamport,
+    ) {
+        DiffAnswer::Done(n) => (n as u64) << 8,
+        DiffAnswer::Refused(code) => code as u64,
+    }
 }
