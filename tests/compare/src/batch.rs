@@ -31,6 +31,8 @@ pub struct Tally {
     /// Answers compared with the reading of 01, and how many of them are refusals.
     pub reading: u64,
     pub refused: u64,
+    /// Arrivals of edits that had arrived in another order before, ending with the same units.
+    pub arrivals: u64,
     /// How often a variant was left because a call is outside the domain, by its name.
     pub outside: BTreeMap<&'static str, u64>,
 }
@@ -52,14 +54,19 @@ pub struct Batch<S> {
     found: Option<(S, Difference)>,
 }
 
+/// The variants of the stand-in that are wanted and usable.
+pub fn variants(usable: impl Fn(&Variant) -> bool) -> Vec<Named> {
+    let names = std::env::var("VARIANTS").unwrap_or_default();
+    let wanted = |n: &str| names.is_empty() || names.split(',').any(|w| w == n);
+    VARIANTS.iter().filter(|v| wanted(v.0) && usable(&v.1)).copied().collect()
+}
+
 impl<S: Script> Batch<S> {
     /// `usable` says which variants of the stand-in the scripts can be judged with.
     pub fn new(usable: impl Fn(&Variant) -> bool) -> Batch<S> {
-        let names = std::env::var("VARIANTS").unwrap_or_default();
-        let wanted = |n: &str| names.is_empty() || names.split(',').any(|w| w == n);
         Batch {
             lane: Lane::new("target/compare"),
-            variants: VARIANTS.iter().filter(|v| wanted(v.0) && usable(&v.1)).copied().collect(),
+            variants: variants(usable),
             waiting: vec![],
             lines: 0,
             tally: Tally::default(),
@@ -141,6 +148,9 @@ impl<S: Script> Batch<S> {
             println!("Left as outside the domain: variant {name}, {n} scripts.");
         }
         println!("Compared with the reading of 01 (cuts, refusals): {} answers, {} of them refusals.", t.reading, t.refused);
+        if t.arrivals > 0 {
+            println!("Further arrivals of the same edits, ending with the same units: {}.", t.arrivals);
+        }
         let Some((script, difference)) = &self.found else {
             println!("no difference");
             return true;

@@ -1,6 +1,7 @@
 //! Histories: edits with contexts, checkouts and deltas, compared with tracker.rs over its stand-ins and with the reading of 01.
 pub mod judge;
 pub mod random;
+pub mod record;
 pub mod small;
 
 use crate::batch::{self, Difference, Named, Tally};
@@ -13,8 +14,8 @@ use model01::history::*;
 #[derive(Clone)]
 pub struct Script {
     pub calls: Vec<Ask>,
-    /// Whether everything is asked after the last call only.
-    pub last_only: bool,
+    /// After how many calls everything is asked; then only where an arrival's edits are done, and after its checkout.
+    pub each: usize,
 }
 
 impl Script {
@@ -25,8 +26,8 @@ impl Script {
         for (i, call) in self.calls.iter().enumerate() {
             reading.ask(call);
             out.push((i, call.clone()));
-            let before_opening = matches!(self.calls.get(i + 1), Some(Ask::New(_)));
-            if !self.last_only || i + 1 == self.calls.len() || before_opening {
+            let ends = matches!(self.calls.get(i + 1), None | Some(Ask::New(_) | Ask::Checkout(_)));
+            if i < self.each || ends {
                 let visible = reading.history.rope.visible();
                 out.extend([Ask::Dump, Ask::Spans, Ask::Len, Ask::Visible, Ask::At(visible / 2), Ask::At(visible)].map(|q| (i, q)));
             }
@@ -72,6 +73,11 @@ impl batch::Script for Script {
         let opened = |s: &Script| matches!(s.calls.first(), Some(Ask::New(_)));
         simpler::smaller(&self.calls, Ask::line, Ask::read).into_iter().map(accepted).filter(opened).collect()
     }
+}
+
+/// Whether an edit may arrive where this is held.
+fn ready(held: &Version, edit: &Edit) -> bool {
+    held.get(&edit.peer).copied().unwrap_or(0) == edit.ctr && History::covers(held, &edit.ctx)
 }
 
 /// Adds to a version whatever the edits that it covers ask for.

@@ -7,6 +7,7 @@
 //!     compare file FILE                            the rope scripts of a file
 //!     compare histories [SCRIPTS [SEED [CALLS]]]   random histories
 //!     compare small [DEPTH [PEERS]]                every small history (`histories/small.rs`)
+//!     compare record [SCRIPTS [SEED [CALLS]]]      a sample of histories with the Rust's answers (`histories/record.rs`)
 //!     compare faults                               whether faults are found (`pretend.rs`)
 //!
 //! `LANE` is the program to judge, `VARIANTS` the stand-in's variants by name (all where nothing is said). It stops at the first difference
@@ -28,7 +29,7 @@ mod row;
 mod simpler;
 
 const USAGE: &str = "usage: compare random [SCRIPTS [SEED [CALLS]]] | short calls|places|deltas [DEPTH [PEERS]] | stores [SCRIPTS [SEED [CALLS]]] | file FILE \
-    | histories [SCRIPTS [SEED [CALLS]]] | small [DEPTH [PEERS]] | faults";
+    | histories [SCRIPTS [SEED [CALLS]]] | small [DEPTH [PEERS]] | record [SCRIPTS [SEED [CALLS]]] | faults";
 
 fn random(scripts: u64, seed: u64, calls: usize) -> bool {
     let mut batch = Batch::new(|_| true);
@@ -71,6 +72,24 @@ fn small(depth: usize, peers: u64) -> bool {
     batch.report()
 }
 
+/// Writes the sample into target/compare.
+fn record(scripts: u64, seed: u64, calls: usize) -> bool {
+    let sample = match histories::record::sample(scripts, seed, calls, &batch::variants(|v| !v.join_all)) {
+        Ok(sample) => sample,
+        Err(difference) => {
+            println!("THE RUST AND THE READING OF 01 DIFFER, {difference}");
+            return false;
+        }
+    };
+    for (name, text) in [("sample.stdin", &sample.script), ("sample.stdout", &sample.answers)] {
+        std::fs::create_dir_all("target/compare").expect("the folder is made");
+        std::fs::write(format!("target/compare/{name}"), text).expect("the sample is written");
+        println!("target/compare/{name}: {} lines", text.lines().count());
+    }
+    println!("{} deltas and positions are recorded; {} are left out, cut otherwise by the Rust than 01 says.", sample.kept, sample.cut);
+    true
+}
+
 /// Judges `pretend` with every fault and with none.
 fn faults() -> bool {
     let myself = std::env::current_exe().expect("the program's own name");
@@ -86,7 +105,7 @@ fn faults() -> bool {
         }
     };
     tries(pretend::FAULTS, &|| random(500, 1, 40));
-    tries(pretend::HISTORY, &|| histories(100, 1, 25));
+    tries(pretend::HISTORY, &|| histories(200, 1, 25));
     good
 }
 
@@ -99,9 +118,10 @@ fn main() {
         return;
     }
     let same = match words.first() {
-        Some(&"histories" | &"small") => {
+        Some(&"histories" | &"small" | &"record") => {
             hist::quiet_panics();
             match words[0] {
+                "record" => record(number(1, 50), number(2, 701), number(3, 18) as usize),
                 "small" => small(number(1, 3) as usize, number(2, 3)),
                 _ => histories(number(1, 1000), number(2, 1), number(3, 40) as usize),
             }

@@ -32,7 +32,13 @@ pub const FAULTS: &[&str] = &[
 ];
 /// The faults in histories that `compare` must find.
 pub const HISTORY: &[&str] = &[
-    "arrival",  // an insert goes right after its origin left, so that the list depends on the arrival
+    "cursor",   // the wrong scans above, with which the list depends on the arrival
+    "peers",    // ...
+    "holding",  // ...
+    "keeps",    // ...
+    "rights",   // ...
+    "equal",    // ...
+    "scanned",  // ...
     "checkout", // a checkout counts no deletes
     "backward", // a delta goes from B to A
     "stands",   // after a delta the list stands at B
@@ -259,6 +265,7 @@ impl Pretend {
     fn ask(&mut self, ask: &Ask) -> String {
         let fault = self.fault.as_str();
         let reading = self.history.as_mut().expect("a history is open");
+        let mut before = reading.history.clone();
         let reply = match ask {
             Ask::Delta(a, b) if fault == "backward" => reading.ask(&Ask::Delta(b.clone(), a.clone())),
             _ => reading.ask(ask),
@@ -273,11 +280,15 @@ impl Pretend {
             Ask::Delta(_, b) if fault == "stands" => {
                 reading.ask(&Ask::Checkout(b.clone()));
             }
-            Ask::Edit(e) if fault == "arrival" && matches!(e.body, Body::Insert { .. }) => {
+            Ask::Edit(e) => {
+                let Body::Insert { pos, .. } = e.body else { return reply.show() };
+                before.checkout(&e.ctx);
+                let to = scan(&before.rope, pos, e.peer, fault);
                 let new = |u: &Unit| u.id.0 == e.peer && u.id.1 >= e.ctr;
+                let at = units.iter().position(new).expect("the new units");
+                assert!(fault != "none" || to == at, "the scan is the reading's");
                 let moved: Vec<Unit> = units.iter().filter(|u| new(u)).cloned().collect();
                 units.retain(|u| !new(u));
-                let to = moved[0].ol.and_then(|l| units.iter().position(|u| u.id == l)).map_or(0, |i| i + 1);
                 units.splice(to..to, moved);
             }
             _ => {}

@@ -1,8 +1,11 @@
 //! Times a morning's merge: a plain program over a vector of spans, and the history through the archive of crate bench, in one run.
 //! merge [SEED [RUNS]]
+#[path = "../../../entries.rs"]
+mod entries;
 mod made;
 mod plain;
 
+use entries::*;
 use plain::{Edit, Id, Plain};
 
 const EDITS: usize = 700;
@@ -11,11 +14,8 @@ const PLACEHOLDER: u32 = 400;
 /// Rows of the store and target ranges that are lent: more than this morning has units.
 const ROOM: usize = 8192;
 
-// A lent slice is a pointer and a length.
 extern "C" {
     fn clock_gettime(clock: i32, time: *mut [i64; 2]) -> i32;
-    fn bench_open_with(s: *mut u8, sn: usize, t: *const u8, tn: usize, e: *mut u8, en: usize, n: u32) -> u8;
-    fn bench_arrive_all(s: *mut u8, sn: usize, t: *mut u8, tn: usize, e: *mut u8, en: usize, rows: *const u8, n: usize) -> u64;
 }
 
 struct History {
@@ -50,6 +50,47 @@ impl History {
         assert_eq!(got, (rows.len() as u64 / 256) << 8, "an edit was refused");
     }
 
+    /// The edit of a row, with its context in columns.
+    fn arrive(&mut self, row: &[u8], context: &Columns) {
+        let (s, t, e, (peers, counts)) = (&mut self.s, &mut self.t, &mut self.e, context);
+        let code = unsafe {
+            bench_arrive(
+                s.as_mut_ptr(),
+                s.len(),
+                t.as_mut_ptr(),
+                t.len(),
+                e.as_mut_ptr(),
+                e.len(),
+                row.as_ptr(),
+                row.len(),
+                peers.as_ptr(),
+                peers.len(),
+                counts.as_ptr(),
+                counts.len(),
+            )
+        };
+        assert_eq!(code, 0, "an edit was refused");
+    }
+
+    fn checkout(&mut self, version: &Columns) {
+        let (s, t, e, (peers, counts)) = (&mut self.s, &self.t, &self.e, version);
+        let code = unsafe {
+            bench_checkout(
+                s.as_mut_ptr(),
+                s.len(),
+                t.as_ptr(),
+                t.len(),
+                e.as_ptr(),
+                e.len(),
+                peers.as_ptr(),
+                peers.len(),
+                counts.as_ptr(),
+                counts.len(),
+            )
+        };
+        assert_eq!(code, 0, "the checkout was refused");
+    }
+
     /// Each unit of the list: id, future, delete count, real id.
     fn units(&self) -> Vec<Unit> {
         let u64_at = |at: usize| u64::from_le_bytes(self.s[at..at + 8].try_into().unwrap());
@@ -66,6 +107,16 @@ impl History {
         }
         all
     }
+}
+
+/// A version's peers and counts.
+type Columns = (Vec<u64>, Vec<u32>);
+
+/// What all edits make together.
+fn whole(edits: &[Edit]) -> Vec<(u64, u32)> {
+    let mut all = std::collections::BTreeMap::new();
+    edits.iter().for_each(|e| *all.entry(e.peer).or_insert(0) += e.len());
+    all.into_iter().collect()
 }
 
 type Unit = (Id, bool, i16, Option<Id>);
@@ -101,14 +152,19 @@ fn main() {
     let made = made::made(&mut random, EDITS, OFFICES, PLACEHOLDER);
     let edits = made::arrival(&mut random, &made, OFFICES);
     let rows = made::rows(&edits);
+    let contexts: Vec<Columns> = edits.iter().map(|e| e.context.iter().copied().unzip()).collect();
+    let whole = whole(&edits);
+    let columns: Columns = whole.iter().copied().unzip();
     let mut h = History::new();
     let (mut plain, mut many, mut single) = (vec![], vec![], vec![]);
-    let mut units = vec![];
+    let (mut units, mut ends) = (vec![], vec![]);
     for _ in 0..runs {
         let start = now();
-        let p = std::hint::black_box(merge_plain(std::hint::black_box(&edits)));
+        let mut p = std::hint::black_box(merge_plain(std::hint::black_box(&edits)));
         plain.push(now() - start);
         units = plain_units(&p);
+        p.checkout(&whole);
+        ends = plain_units(&p);
 
         h.zero();
         let start = now();
@@ -116,19 +172,28 @@ fn main() {
         h.arrive_all(&rows);
         many.push(now() - start);
         assert!(h.units() == units, "many edits in one call: the lists differ");
+        h.checkout(&columns);
+        assert!(h.units() == ends, "many edits in one call: the lists differ at the whole set");
 
         h.zero();
         let start = now();
         h.open();
-        rows.chunks(256).for_each(|row| h.arrive_all(row));
+        rows.chunks(256).zip(&contexts).for_each(|(row, context)| h.arrive(row, context));
         single.push(now() - start);
         assert!(h.units() == units, "one edit a call: the lists differ");
+        h.checkout(&columns);
+        assert!(h.units() == ends, "one edit a call: the lists differ at the whole set");
     }
-    let visible = units.iter().filter(|u| !u.1 && u.2 == 0).count();
-    println!("{EDITS} edits by {OFFICES} offices, placeholder of {PLACEHOLDER}, seed {seed}: {} units, {visible} of them visible where the list stands", units.len());
-    println!("the same units, statuses and real ids in all three; processor time, the quickest of {runs} runs, buffers zeroed before each");
+    let visible = |all: &[Unit]| all.iter().filter(|u| !u.1 && u.2 == 0).count();
+    println!(
+        "{EDITS} edits by {OFFICES} offices, placeholder of {PLACEHOLDER}, seed {seed}: {} units, {} visible where the list stands, {} at the whole set",
+        units.len(),
+        visible(&units),
+        visible(&ends)
+    );
+    println!("the same units, statuses and real ids in all three, there and at the whole set; processor time, the quickest of {runs} runs, buffers zeroed before each");
     let (plain, many, single) = (least(&plain), least(&many), least(&single));
     println!("  plain, a vector of spans     {plain:9.1} us an edit");
-    println!("  one call for all edits       {many:9.1} us an edit  {:8.2} times plain", many / plain);
-    println!("  a call for each edit         {single:9.1} us an edit  {:8.2} times plain", single / plain);
+    println!("  arrive_all, one call         {many:9.1} us an edit  {:8.2} times plain", many / plain);
+    println!("  arrive, a call for each edit {single:9.1} us an edit  {:8.2} times plain", single / plain);
 }

@@ -96,7 +96,7 @@ impl Plain {
     pub fn new(units: u32) -> Plain {
         let all =
             Span { id: (UNKNOWN, 0), len: units, lamport: 0, start: 0, real: None, left: None, right: None, future: false, deletes: 0 };
-        Plain { list: vec![all], deletes: vec![] }
+        Plain { list: if units > 0 { vec![all] } else { vec![] }, deletes: vec![] }
     }
 
     pub fn visible_len(&self) -> u32 {

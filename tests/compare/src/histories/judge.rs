@@ -1,7 +1,7 @@
 //! Compares what the lane program said on a history with tracker.rs over its stand-ins, and with the reading of document 01.
 //!
 //! As for ropes: units, deltas with like neighbours joined, positions, lengths and lists with the Rust, cuts and refusals with the reading. Besides, the list must be the walk
-//! of its own tree, and two arrivals of the same edits, checked out at all of them, must have the same units (real ids of placeholder units aside, which
+//! of its own tree, and arrivals of the same edits, checked out at all of them, must have the same units (real ids of placeholder units aside, which
 //! depend on the arrival).
 use crate::answer::{self, Item};
 use crate::batch::{Difference, Named, Tally};
@@ -87,7 +87,7 @@ impl Reply {
         }
     }
 
-    fn uncut(&self) -> Reply {
+    pub fn uncut(&self) -> Reply {
         match self {
             Reply::Said(a) => Reply::Said(uncut(a)),
             list => list.clone(),
@@ -103,9 +103,27 @@ fn read(said: Option<&Said>) -> Result<Reply, String> {
     }
 }
 
-fn items(units: &[Unit]) -> Reply {
+fn items(units: &[Unit]) -> Vec<Item> {
     let seen = units.iter().filter(|u| u.visible());
-    Reply::List(seen.map(|u| (u.real.unwrap_or(u.id), u.chunk)).collect())
+    seen.map(|u| (u.real.unwrap_or(u.id), u.chunk)).collect()
+}
+
+/// The visible units with a delta applied to them.
+fn applied(units: &[Unit], delta: &[Entry]) -> Reply {
+    let mut old = items(units).into_iter();
+    let mut out = Vec::new();
+    for entry in delta {
+        match *entry {
+            Entry::Retain(n) => out.extend(old.by_ref().take(n as usize)),
+            Entry::Delete(n) => old.by_ref().take(n as usize).for_each(drop),
+            Entry::Insert { chunk, id, .. } => {
+                let first = Unit { id, lamport: 0, real: None, status: (false, 0), diff: None, ol: None, or: None, chunk };
+                let len = chunk_len(chunk).unwrap_or(0) as usize;
+                out.extend(units_of(&first, len).iter().map(|u| (u.id, u.chunk)));
+            }
+        }
+    }
+    Reply::List(out.into_iter().chain(old).collect())
 }
 
 /// `model01`'s history with 01's cuts.
@@ -146,21 +164,21 @@ impl Reading {
                 Answer::Entries(_) => {
                     let mut there = history.clone();
                     there.checkout(b);
-                    return items(&there.rope.units);
+                    return Reply::List(items(&there.rope.units));
                 }
                 refused => refused,
             },
             Ask::Dump => Answer::Units(history.rope.units.clone()),
             Ask::Spans => Answer::Spans(history.rope.spans()),
             Ask::Len => Answer::Len(history.rope.visible()),
-            Ask::Visible => return items(&history.rope.units),
+            Ask::Visible => return Reply::List(items(&history.rope.units)),
             Ask::At(p) => Answer::At(history.rope.at(*p)),
         })
     }
 }
 
 /// The Rust's answer. It leaves a delta's diff_status standing, which 01 clears.
-fn rust(driver: &mut HistDriver, ask: &Ask) -> Reply {
+pub fn rust(driver: &mut HistDriver, ask: &Ask) -> Reply {
     let cleared = |mut units: Vec<Unit>| {
         units.iter_mut().for_each(|u| u.diff = None);
         units
@@ -170,18 +188,13 @@ fn rust(driver: &mut HistDriver, ask: &Ask) -> Reply {
         Ask::Edit(e) => driver.call(&HCall::Edit(e.clone())),
         Ask::Checkout(v) => driver.call(&HCall::Checkout(v.clone())),
         Ask::Delta(a, b) => driver.call(&HCall::Delta(a.clone(), b.clone())),
-        Ask::Applied(a, b) => {
-            let there = driver.call(&HCall::Checkout(b.clone()));
-            let list = items(&driver.units());
-            let back = driver.call(&HCall::Checkout(a.clone()));
-            match (there, back) {
-                (Answer::Ok, Answer::Ok) => return list,
-                (Answer::Ok, panic) | (panic, _) => panic,
-            }
-        }
+        Ask::Applied(a, b) => match driver.call(&HCall::Delta(a.clone(), b.clone())) {
+            Answer::Entries(delta) => return applied(&driver.units(), &delta),
+            panic => panic,
+        },
         Ask::Dump | Ask::Spans => Answer::Units(cleared(driver.units())),
         Ask::Len => driver.call(&HCall::Len),
-        Ask::Visible => return items(&driver.units()),
+        Ask::Visible => return Reply::List(items(&driver.units())),
         Ask::At(p) => driver.call(&HCall::At(*p)),
     })
 }
@@ -232,7 +245,7 @@ pub fn judge(asked: &[Ask], said: &[Said], variants: &[Named], tally: &mut Tally
             first = differ(line, "the reading of 01", got.show(), want.show());
         }
     }
-    let first = first.or_else(|| walked(&answers)).or_else(|| arrivals(asked, &answers));
+    let first = first.or_else(|| walked(&answers)).or_else(|| arrivals(asked, &answers, tally));
     first.map_or(Ok(()), Err)
 }
 
@@ -250,12 +263,13 @@ fn walked(answers: &[(Reply, Reply)]) -> Option<Difference> {
 }
 
 /// Histories of the same edits, each ending with a checkout at all of them, have the same units.
-fn arrivals(asked: &[Ask], answers: &[(Reply, Reply)]) -> Option<Difference> {
+fn arrivals(asked: &[Ask], answers: &[(Reply, Reply)], tally: &mut Tally) -> Option<Difference> {
     let mut reading = Reading::default();
     let mut ends: Vec<(Vec<Edit>, usize, Vec<Unit>)> = Vec::new();
-    let mut whole = false;
+    let (mut whole, mut opened) = (false, true);
     for (line, ask) in asked.iter().enumerate() {
         reading.ask(ask);
+        opened |= matches!(ask, Ask::New(_));
         whole = match ask {
             Ask::Checkout(v) => *v == reading.history.counts,
             Ask::Dump => whole,
@@ -266,14 +280,22 @@ fn arrivals(asked: &[Ask], answers: &[(Reply, Reply)]) -> Option<Difference> {
             edits.sort_by_key(|e| (e.peer, e.ctr));
             let mut units = units.clone();
             units.iter_mut().filter(|u| u.id.0 == UNKNOWN_PEER).for_each(|u| u.real = None);
+            if !std::mem::take(&mut opened) {
+                ends.pop();
+            }
             ends.push((edits, line, units));
         }
     }
-    let same = |a: &[Unit], b: &[Unit]| a == b;
-    ends.windows(2).find(|w| w[0].0 == w[1].0 && !same(&w[0].2, &w[1].2)).map(|w| Difference {
-        line: w[1].1,
-        from: "another arrival of the same edits".into(),
-        lane: show_answer(&Answer::Units(w[1].2.clone())),
-        want: show_answer(&Answer::Units(w[0].2.clone())),
-    })
+    for w in ends.windows(2).filter(|w| w[0].0 == w[1].0) {
+        if w[0].2 != w[1].2 {
+            return Some(Difference {
+                line: w[1].1,
+                from: "another arrival of the same edits".into(),
+                lane: show_answer(&Answer::Units(w[1].2.clone())),
+                want: show_answer(&Answer::Units(w[0].2.clone())),
+            });
+        }
+        tally.arrivals += 1;
+    }
+    None
 }

@@ -1,9 +1,12 @@
-//! Random histories: edits of several peers that know more or less of one another, checkouts and deltas between closed versions, and at the end another arrival of the same edits.
+//! Random histories: edits of several peers that know more or less of one another, checkouts and deltas between closed versions, and at the end other arrivals of the same edits.
 use super::judge::Ask;
-use super::{close, Script};
+use super::{close, ready, Script};
 use crate::chance::Random;
 use model01::history::*;
 use model01::*;
+
+/// How many arrivals of the same edits a script holds: as they were made, then in random orders.
+const ARRIVALS: usize = 4;
 
 pub fn script(seed: u64, calls: usize) -> Script {
     let mut random = Random::new(seed ^ 0xA551);
@@ -14,23 +17,38 @@ pub fn script(seed: u64, calls: usize) -> Script {
         (0..2 + random.below(4)).map(|_| random.pick(&[1, 2, 3, 4, 5, 7, 0, u64::MAX - 1])).collect()
     };
     let longest = random.pick(&[1, 2, 6, 40]);
+    let (mut out, history) = made(&mut random, placeholder, &peers, longest, calls);
+    let whole = Ask::Checkout(history.counts.clone());
+    out.push(whole.clone());
+    let mut each = 0;
+    for _ in 1..ARRIVALS {
+        out.push(Ask::New(placeholder));
+        out.extend(arrival(&mut random, &history.edits).into_iter().map(Ask::Edit));
+        out.push(whole.clone());
+        each = if each == 0 { out.len() } else { each };
+    }
+    Script { calls: out, each }
+}
+
+/// Calls from an opening on, and the history that they make.
+pub fn made(random: &mut Random, placeholder: u32, peers: &[u64], longest: usize, calls: usize) -> (Vec<Ask>, History) {
     let mut history = History::new(placeholder, true);
     let mut out = vec![Ask::New(placeholder)];
     let mut text = 0;
     while out.len() < calls {
         let ask = match random.below(10) {
             0..=6 => {
-                let Some(edit) = edit(&mut random, &history, &peers, longest, &mut text) else { continue };
+                let Some(edit) = edit(random, &history, peers, longest, &mut text) else { continue };
                 history.edit(&edit);
                 Ask::Edit(edit)
             }
             7 => {
-                let v = version(&mut random, &history);
+                let v = version(random, &history);
                 history.checkout(&v);
                 Ask::Checkout(v)
             }
             kind => {
-                let (a, b) = (version(&mut random, &history), version(&mut random, &history));
+                let (a, b) = (version(random, &history), version(random, &history));
                 history.checkout(&a);
                 if kind == 8 {
                     Ask::Delta(a, b)
@@ -41,11 +59,7 @@ pub fn script(seed: u64, calls: usize) -> Script {
         };
         out.push(ask);
     }
-    out.push(Ask::Checkout(history.counts.clone()));
-    out.push(Ask::New(placeholder));
-    out.extend(arrival(&mut random, &history.edits).into_iter().map(Ask::Edit));
-    out.push(Ask::Checkout(history.counts.clone()));
-    Script { calls: out, last_only: false }
+    (out, history)
 }
 
 /// A closed version.
@@ -109,14 +123,13 @@ fn edit(random: &mut Random, history: &History, peers: &[u64], longest: usize, t
     Some(Edit { peer, ctr: own, ctx, body })
 }
 
-/// The edits in another order in which each comes after those that its context covers, even in part.
-fn arrival(random: &mut Random, edits: &[Edit]) -> Vec<Edit> {
+/// The edits in a random order in which each comes after those that its context covers, even in part.
+pub fn arrival(random: &mut Random, edits: &[Edit]) -> Vec<Edit> {
     let mut left = edits.to_vec();
     let mut held = Version::new();
     let mut out = Vec::new();
     while !left.is_empty() {
-        let ready = |e: &Edit| held.get(&e.peer).copied().unwrap_or(0) == e.ctr && History::covers(&held, &e.ctx);
-        let choices: Vec<usize> = (0..left.len()).filter(|i| ready(&left[*i])).collect();
+        let choices: Vec<usize> = (0..left.len()).filter(|i| ready(&held, &left[*i])).collect();
         let next = left.remove(random.pick(&choices));
         held.insert(next.peer, next.ctr + next.len() as i32);
         out.push(next);

@@ -1,16 +1,16 @@
-//! Every small history: inserts of one or two units and deletes of one, by each peer, with every context that 01 takes and at every position.
+//! Every small history: inserts of one or two units and deletes of one, by each peer, with every context that 01 takes and at every position; each in every order of arrival.
 use super::judge::Ask;
-use super::Script;
+use super::{ready, Script};
 use model01::history::*;
 use model01::*;
 
 /// Hands every history of at most `depth` edits to `sink`, until it answers false.
 pub fn scripts(depth: usize, peers: u64, sink: &mut dyn FnMut(Script) -> bool) -> bool {
-    longer(&mut vec![Ask::New(0)], &History::new(0, true), depth, peers, sink)
+    longer(&History::new(0, true), depth, peers, sink)
 }
 
-fn longer(calls: &mut Vec<Ask>, history: &History, depth: usize, peers: u64, sink: &mut dyn FnMut(Script) -> bool) -> bool {
-    if !sink(Script { calls: calls.clone(), last_only: true }) {
+fn longer(history: &History, depth: usize, peers: u64, sink: &mut dyn FnMut(Script) -> bool) -> bool {
+    if !sink(arrivals(history)) {
         return false;
     }
     if depth == 0 {
@@ -21,14 +21,35 @@ fn longer(calls: &mut Vec<Ask>, history: &History, depth: usize, peers: u64, sin
         if let Answer::Refused(_) = next.edit(&edit) {
             continue;
         }
-        calls.push(Ask::Edit(edit));
-        let more = longer(calls, &next, depth - 1, peers, sink);
-        calls.pop();
-        if !more {
+        if !longer(&next, depth - 1, peers, sink) {
             return false;
         }
     }
     true
+}
+
+/// The edits in every order in which each comes after those that its context covers, each order ending with a checkout at all of them. The first is the order they were made in.
+fn arrivals(history: &History) -> Script {
+    let mut calls = Vec::new();
+    orders(&mut Vec::new(), &Version::new(), &history.edits, &mut |order| {
+        calls.push(Ask::New(0));
+        calls.extend(order.iter().cloned().map(Ask::Edit));
+        calls.push(Ask::Checkout(history.counts.clone()));
+    });
+    Script { calls, each: 0 }
+}
+
+fn orders(done: &mut Vec<Edit>, held: &Version, left: &[Edit], sink: &mut dyn FnMut(&[Edit])) {
+    if left.is_empty() {
+        sink(done);
+    }
+    for (i, edit) in left.iter().enumerate().filter(|(_, e)| ready(held, e)) {
+        let mut held = held.clone();
+        held.insert(edit.peer, edit.ctr + edit.len() as i32);
+        done.push(edit.clone());
+        orders(done, &held, &[&left[..i], &left[i + 1..]].concat(), sink);
+        done.pop();
+    }
 }
 
 /// The edits that may come next, and some that are refused.
