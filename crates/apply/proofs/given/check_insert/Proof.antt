@@ -1,4 +1,8 @@
-use mathlib.Core.Path.{refl}
+use mathlib.Core.Path.{_≡_, refl, sym, ap, _∙_}
+use Rattle.span.specs.declared.ids.OptId.the-variants.{At}
+use Rattle.span.specs.Ids.{roomOpt}
+use Rattle.span.specs.Chunk.{lenOf}
+use Rattle.apply.specs.Apply.{lamportFits}
 use mathlib.Core.Bool.{true, false}
 use Rattle.apply.proofs.Lows.{insert-by}
 use borrow.Author.Needs.{needs}
@@ -23,17 +27,27 @@ has-room-requires c κs = search needs
 lamport-fits-requires : tie.Need-lamport-fits-requires
 lamport-fits-requires c κs = search needs
 
+-- the two tests are of the content's length
+room-of : (c : tie.After-has-room) → let a = c .before .before .before .before .args in
+    roomOpt (At (a .id)) (lenOf (a .content)) ≡ c .has-room .result
+room-of c = ap (roomOpt (At (c .before .before .before .before .args .id))) (sym (c .before .len .ensures)) ∙ sym (c .has-room .ensures)
+
+lamport-of : (c : tie.After-lamport-fits) → let a = c .before .before .before .before .before .before .args in
+    lamportFits (a .lamport) (lenOf (a .content)) ≡ c .lamport-fits .result
+lamport-of c =
+    ap (lamportFits (c .before .before .before .before .before .before .args .lamport)) (sym (c .before .before .before .len .ensures)) ∙ sym (c .lamport-fits .ensures)
+
 returns : tie.Need-returns
-returns c = insert-by _ _ _ true true true (cc) (cc) (cc)
+returns c = insert-by _ _ _ true true true (sym (c .before .before .before .before .before .before .is-formed .ensures) ∙ c .before .before .before .before .before .if1 .taken) (room-of (c .before .before .before) ∙ c .before .before .if2 .taken) (lamport-of (c .before) ∙ c .if3 .taken)
 
 returns-2 : tie.Need-returns-2
-returns-2 c = insert-by _ _ _ true true false (cc) (cc) (cc)
+returns-2 c = insert-by _ _ _ true true false (sym (c .before .before .before .before .before .before .is-formed .ensures) ∙ c .before .before .before .before .before .if1 .taken) (room-of (c .before .before .before) ∙ c .before .before .if2 .taken) (lamport-of (c .before) ∙ c .if3 .left)
 
 returns-3 : tie.Need-returns-3
-returns-3 c = insert-by _ _ _ true false _ (cc) (cc) refl
+returns-3 c = insert-by _ _ _ true false _ (sym (c .before .before .before .before .is-formed .ensures) ∙ c .before .before .before .if1 .taken) (room-of (c .before) ∙ c .if2 .left) refl
 
 returns-4 : tie.Need-returns-4
-returns-4 c = insert-by _ _ _ false _ _ (cc) refl refl
+returns-4 c = insert-by _ _ _ false _ _ (sym (c .before .is-formed .ensures) ∙ c .if1 .left) refl refl
 
 pub check-insert-spec : {M : Type 1} → statement M
 check-insert-spec =
