@@ -1,5 +1,9 @@
 use Rattle.tracker.proofs.HeldLaws.{act-by}
-use mathlib.Core.Path.{refl}
+use mathlib.Core.Path.{_≡_, refl, sym, ap, _∙_}
+use Rattle.span.specs.declared.ids.OptId.the-variants.{At}
+use Rattle.span.specs.Ids.{roomOpt}
+use Rattle.history.specs.Edit.{sizeOf}
+use Rattle.tracker.specs.Rows.{toAct}
 use mathlib.Core.Bool.{true, false}
 use borrow.Author.Needs.{needs}
 use Rattle.tracker.proofs.act.act_code.Statement.{statement}
@@ -23,17 +27,25 @@ has-room-requires c κs = search needs
 act-ids-requires : tie.Need-act-ids-requires
 act-ids-requires c κs = search needs
 
+-- the room that is asked for is that of the edit's size
+room : (c : tie.After-has-room) → let a = c .before .before .before .before .args in
+    roomOpt (At (a .id)) (sizeOf (toAct (a .act))) ≡ c .has-room .result
+room c = let a = c .before .before .before .before .args in
+    ap (roomOpt (At (a .id))) (sym (c .before .size-of .ensures)) ∙ sym (c .has-room .ensures)
+
 returns : tie.Need-returns
-returns c = act-by _ _ true true true (cc) (cc) (cc)
+returns c = act-by _ _ true true true (sym (c .before .before .before .before .before .before .act-formed .ensures) ∙ c .before .before .before .before .before .if1 .taken)
+    (room (c .before .before .before) ∙ c .before .before .if2 .taken) (sym (c .before .act-ids .ensures) ∙ c .if3 .taken)
 
 returns-2 : tie.Need-returns-2
-returns-2 c = act-by _ _ true true false (cc) (cc) (cc)
+returns-2 c = act-by _ _ true true false (sym (c .before .before .before .before .before .before .act-formed .ensures) ∙ c .before .before .before .before .before .if1 .taken)
+    (room (c .before .before .before) ∙ c .before .before .if2 .taken) (sym (c .before .act-ids .ensures) ∙ c .if3 .left)
 
 returns-3 : tie.Need-returns-3
-returns-3 c = act-by _ _ true false _ (cc) (cc) refl
+returns-3 c = act-by _ _ true false _ (sym (c .before .before .before .before .act-formed .ensures) ∙ c .before .before .before .if1 .taken) (room (c .before) ∙ c .if2 .left) refl
 
 returns-4 : tie.Need-returns-4
-returns-4 c = act-by _ _ false _ _ (cc) refl refl
+returns-4 c = act-by _ _ false _ _ (sym (c .before .act-formed .ensures) ∙ c .if1 .left) refl refl
 
 pub act-code-spec : {M : Type 1} → statement M
 act-code-spec =

@@ -1,4 +1,4 @@
-use mathlib.Core.Path.{_≡_, ap, _∙_}
+use mathlib.Core.Path.{_≡_, sym, ap, _∙_}
 use native.Mathlib.Omega.{arith}
 use Rattle.span.specs.declared.span.DiffStatus.the-variants.{NotChanged, Created, Deleted}
 use Rattle.rope.proofs.Seeks.{active-most}
@@ -42,17 +42,17 @@ change-requires-2 c κs = search needs
 returns : tie.Need-returns
 returns c =
     let o = (c .before .before .before .before .before .before) in let x = o .args in
-    let y : measureBy NotChanged (x .self) (x .row) ≡ measured (x .self) (x .row) = measured-by (x .self) (x .row) NotChanged (cc) in
+    let y : measureBy NotChanged (x .self) (x .row) ≡ measured (x .self) (x .row) = measured-by (x .self) (x .row) NotChanged (sym (c .before .before .before .before .before .diff .ensures) ∙ c .before .before .before .enum-told .given .1) in
     rw ((c .before) .activated-len .ensures) y
 
 returns-2 : tie.Need-returns-2
 returns-2 c =
     let o = (c .before .before .before .before .before) in let x = o .args in
-    c .change .ensures ∙ (ap (changed (x .self)) ((c .before) .is-real .ensures) ∙ measured-by (x .self) (x .row) Created (cc))
+    c .change .ensures ∙ (ap (changed (x .self)) ((c .before) .is-real .ensures) ∙ measured-by (x .self) (x .row) Created (sym (c .before .before .before .before .diff .ensures) ∙ c .before .before .enum-told2 .given .1))
 
 returns-3 : tie.Need-returns-3
 returns-3 c =
-    let o = (c .before .before .before .before) in let x = o .args in c .change2 .ensures ∙ measured-by (x .self) (x .row) Deleted (cc)
+    let o = (c .before .before .before .before) in let x = o .args in c .change2 .ensures ∙ measured-by (x .self) (x .row) Deleted (sym (c .before .before .before .diff .ensures) ∙ c .before .enum-told3 .given .1)
 
 pub on-spec : {M : Type 1} → statement M
 on-spec =
