@@ -1,5 +1,6 @@
 use Rattle.tracker.proofs.Checking.{well-head, well-edits}
 use Rattle.tracker.proofs.Accepting.{go-sees, go-stands, go-done}
+use native.Mathlib.Omega.{arith}
 use borrow.Author.Needs.{needs}
 use Rattle.tracker.proofs.arrive.go_to.Statement.{statement}
 use Rattle.tracker.proofs.arrive.go_to.Tie as tie
@@ -41,19 +42,19 @@ part-count-seen-end-2 : tie.Need-part-count-seen-end-2
 part-count-seen-end-2 c = search needs
 
 sub-count-seen-3 : tie.Need-sub-count-seen-3
-sub-count-seen-3 c = search needs
+sub-count-seen-3 c = omega (arith, (c .before .before .before .before .before .before .before .before .before .before .before) .pre .1)
 
 part-count-seen-start-3 : tie.Need-part-count-seen-start-3
-part-count-seen-start-3 c = search needs
+part-count-seen-start-3 c = omega (arith, (c .before .before .before .before .before .before .before .before .before .before .before) .pre .1)
 
 part-count-seen-end-3 : tie.Need-part-count-seen-end-3
 part-count-seen-end-3 c = search needs
 
 sub-count-seen-4 : tie.Need-sub-count-seen-4
-sub-count-seen-4 c = search needs
+sub-count-seen-4 c = omega (arith, (c .before .before .before .before .before .before .before .before .before .before .before .before) .pre .1)
 
 part-count-seen-start-4 : tie.Need-part-count-seen-start-4
-part-count-seen-start-4 c = search needs
+part-count-seen-start-4 c = omega (arith, (c .before .before .before .before .before .before .before .before .before .before .before .before) .pre .1)
 
 part-count-seen-end-4 : tie.Need-part-count-seen-end-4
 part-count-seen-end-4 c = search needs
@@ -74,19 +75,19 @@ part-stand-end : tie.Need-part-stand-end
 part-stand-end c = search needs
 
 sub-stand-2 : tie.Need-sub-stand-2
-sub-stand-2 c = search needs
+sub-stand-2 c = omega (arith, (c .before .before .before .before .before .before .before .before .before .before .before .before .before .before .before .before) .pre .1)
 
 part-stand-start-2 : tie.Need-part-stand-start-2
-part-stand-start-2 c = search needs
+part-stand-start-2 c = omega (arith, (c .before .before .before .before .before .before .before .before .before .before .before .before .before .before .before .before) .pre .1)
 
 part-stand-end-2 : tie.Need-part-stand-end-2
 part-stand-end-2 c = search needs
 
 sub-stand-3 : tie.Need-sub-stand-3
-sub-stand-3 c = search needs
+sub-stand-3 c = omega (arith, (c .before .before .before .before .before .before .before .before .before .before .before .before .before .before .before .before .before) .pre .1)
 
 part-stand-start-3 : tie.Need-part-stand-start-3
-part-stand-start-3 c = search needs
+part-stand-start-3 c = omega (arith, (c .before .before .before .before .before .before .before .before .before .before .before .before .before .before .before .before .before) .pre .1)
 
 part-stand-end-3 : tie.Need-part-stand-end-3
 part-stand-end-3 c = search needs
@@ -96,7 +97,7 @@ stand-requires c κs =
     let o = (c .before .before .before .before .before .before .before .before .before .before .before .before .before .before .before .before .before .before) in let x = o .args in go-stands (x .s .now) (x .t .now) (x .e .now) (x .row .now) (o .pre .0) (o .pre .1) (o .pre .2) ((c .before .before .before .before .before .before .before .before .before .before .before .before .before) .edit-count .result) ((c .before .before .before .before .before .before .before .before .before .before .before .before .before) .edit-count .ensures) ((c .before .before .before .before .before .before .before .before .before .before .before) .count .result) ((c .before .before .before .before .before .before .before .before .before .before .before) .count .ensures) ((c .before .before .before .before .before .before .before .before .before .before) .get-pairs .result) ((c .before .before .before .before .before .before .before .before .before .before) .get-pairs .ensures) ((c .before .before .before .before) .count-seen .result) ((c .before .before .before .before) .count-seen .ensures)
 
 same-length : tie.Need-same-length
-same-length c = search needs
+same-length c = (c .before .before) .stand .kept .0
 
 returns : tie.Need-returns
 returns c =

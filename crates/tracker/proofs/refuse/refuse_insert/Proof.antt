@@ -57,7 +57,8 @@ returns-3 c =
     insert-units (x .most) (x .h) us (x .at) (x .x) l k (omega (arith, c .if3 .taken, c .before .before .units .ensures, c .before .len-of .ensures .0, len))
 
 insert-in-rows-requires : tie.Need-insert-in-rows-requires
-insert-in-rows-requires c κs = search needs
+insert-in-rows-requires c κs =
+    ((c .before .before .before .before .before .before .before .before .before .before) .pre .0, omega (arith, c .before .before .before .before .if1 .left, c .before .before .before .before .before .shown-seen .ensures), omega (arith, c .before .before .units .ensures, c .before .len-of .ensures .0))
 
 returns-4 : tie.Need-returns-4
 returns-4 c =

@@ -41,7 +41,8 @@ does-of-requires c κs = search needs
 
 returns : tie.Need-returns
 unfolding editIn actIn
-returns c = cc
+returns c =
+    rw (c .does-of .ensures, c .before .get-u327 .ensures, c .before .before .get-u326 .ensures, c .before .before .before .get-u325 .ensures, c .before .before .before .before .get-u324 .ensures, c .before .before .before .before .before .get-u323 .ensures, c .before .before .before .before .before .before .id-of2 .ensures, c .before .before .before .before .before .before .before .get-u322 .ensures, c .before .before .before .before .before .before .before .before .get-u642 .ensures, c .before .before .before .before .before .before .before .before .before .id-of .ensures, c .before .before .before .before .before .before .before .before .before .before .get-u32 .ensures, c .before .before .before .before .before .before .before .before .before .before .before .get-u64 .ensures)
 
 pub get-head-spec : {M : Type 1} → statement M
 get-head-spec =
