@@ -1,4 +1,4 @@
-use mathlib.Core.Path.{_∙_}
+use mathlib.Core.Path.{sym, _∙_}
 use Rattle.span.specs.declared.span.DiffStatus.the-variants.{NotChanged, Created, Deleted}
 use Rattle.rope.proofs.Diffs.{insert-by}
 use borrow.Author.Needs.{needs}
@@ -25,13 +25,13 @@ enum-told-3 : tie.Need-enum-told-3
 enum-told-3 c = search needs
 
 returns : tie.Need-returns
-returns c = insert-by _ NotChanged (cc)
+returns c = insert-by _ NotChanged (sym (c .before .before .diff .ensures) ∙ c .enum-told .given .1)
 
 returns-2 : tie.Need-returns-2
-returns-2 c = c .is-real .ensures ∙ insert-by _ Created (cc)
+returns-2 c = c .is-real .ensures ∙ insert-by _ Created (sym (c .before .before .before .diff .ensures) ∙ c .before .enum-told2 .given .1)
 
 returns-3 : tie.Need-returns-3
-returns-3 c = insert-by _ Deleted (cc)
+returns-3 c = insert-by _ Deleted (sym (c .before .before .diff .ensures) ∙ c .enum-told3 .given .1)
 
 pub can-insert-spec : {M : Type 1} → statement M
 can-insert-spec =

@@ -1,5 +1,5 @@
 use Prim.Native.Nat.{ℕ}
-use mathlib.Core.Path.{ap, _∙_}
+use mathlib.Core.Path.{sym, ap, _∙_}
 use Rattle.span.specs.declared.span.DiffStatus.the-variants.{NotChanged, Created, Deleted}
 use Rattle.rope.specs.declared.diff.Change.the-variants.{Is}
 use Rattle.rope.specs.Delta.{Delete}
@@ -32,13 +32,13 @@ rle-len-requires : tie.Need-rle-len-requires
 rle-len-requires c κs = search needs
 
 returns : tie.Need-returns
-returns c = change-by _ NotChanged (cc)
+returns c = change-by _ NotChanged (sym (c .before .before .diff .ensures) ∙ c .enum-told .given .1)
 
 returns-2 : tie.Need-returns-2
-returns-2 c = ap Is (c .insert-of .ensures) ∙ change-by _ Created (cc)
+returns-2 c = ap Is (c .insert-of .ensures) ∙ change-by _ Created (sym (c .before .before .before .diff .ensures) ∙ c .before .enum-told2 .given .1)
 
 returns-3 : tie.Need-returns-3
-returns-3 c = ap (λ (n : ℕ). Is (Delete n)) (c .rle-len .ensures) ∙ change-by _ Deleted (cc)
+returns-3 c = ap (λ (n : ℕ). Is (Delete n)) (c .rle-len .ensures) ∙ change-by _ Deleted (sym (c .before .before .before .diff .ensures) ∙ c .before .enum-told3 .given .1)
 
 pub change-of-spec : {M : Type 1} → statement M
 change-of-spec =

@@ -17,7 +17,7 @@ least-requires-2 c κs = search needs
 
 returns : tie.Need-returns
 unfolding deleteCut
-returns c = cc
+returns c = rw (c .least2 .ensures, c .before .before .least .ensures, c .before .before .before .activated-len .ensures)
 
 pub cut-spec : {M : Type 1} → statement M
 cut-spec =

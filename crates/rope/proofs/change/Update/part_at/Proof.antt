@@ -17,7 +17,7 @@ least-requires-2 c κs = search needs
 
 returns : tie.Need-returns
 unfolding partAt
-returns c = cc
+returns c = rw (c .least2 .ensures, c .before .past2 .ensures, c .before .before .least .ensures, c .before .before .before .past .ensures)
 
 pub part-at-spec : {M : Type 1} → statement M
 part-at-spec =
