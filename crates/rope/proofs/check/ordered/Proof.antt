@@ -1,6 +1,7 @@
-use mathlib.Core.Path.{sym, ap, _∙_}
+use Prim.Native.Nat.{ℕ, _≤_}
+use mathlib.Core.Path.{sym, ap, subst, _∙_}
 use mathlib.Core.Bool.{Bool, _&&_}
-use lib.ListN.{length-replicate}
+use lib.ListN.{length, replicate, length-replicate}
 use Rattle.span.specs.Units.{expand}
 use Rattle.store.specs.Row.{rows}
 use Rattle.rope.specs.Store.{originsNamed}
@@ -15,25 +16,28 @@ use Rattle.rope.proofs.order.order.Reads as order-reads
 use Rattle.rope.proofs.order.origins_sorted.Reads as origins-sorted-reads
 use Rattle.rope.proofs.order.twice.Reads as twice-reads
 
+-- room for so many numbers in an array of equal ones
+enough : (n m x : ℕ) → n ≤ m → n ≤ length (replicate m x)
+enough n m x p = subst (λ (k : ℕ). n ≤ k) (sym (length-replicate m x)) p
+
 slice-aggregate-order : tie.Need-slice-aggregate-order
-slice-aggregate-order c = search needs
+slice-aggregate-order c = sym (length-replicate {A = ℕ} 65536 0)
 
 slice-aggregate-order-2 : tie.Need-slice-aggregate-order-2
-slice-aggregate-order-2 c = search needs
+slice-aggregate-order-2 c = sym (length-replicate {A = ℕ} 65536 0)
 
 order-requires : tie.Need-order-requires
-order-requires c κs = let p = c .before .before .before .pre in
-    (p .0, p .1, rw length-replicate (p .2), rw length-replicate (p .2), p .2)
+order-requires c κs = let e = c .before .before .before in let p = e .pre in let h = enough (e .args .n) 65536 0 (p .2) in (p .0, p .1, h, h, p .2)
 
 slice-aggregate-origins-sorted : tie.Need-slice-aggregate-origins-sorted
-slice-aggregate-origins-sorted c = search needs
+slice-aggregate-origins-sorted c = sym (c .before .before .before .before .order .kept .1 .1 .0 ∙ length-replicate {A = ℕ} 65536 0)
 
 origins-sorted-requires : tie.Need-origins-sorted-requires
 origins-sorted-requires c κs = let p = c .before .before .before .before .before .before .before .before .pre in
     (p .0, p .1, c .before .before .before .before .order .ensures (c .before .if1 .taken))
 
 slice-aggregate-twice : tie.Need-slice-aggregate-twice
-slice-aggregate-twice c = search needs
+slice-aggregate-twice c = sym (c .before .before .before .before .order .kept .1 .1 .0 ∙ length-replicate {A = ℕ} 65536 0)
 
 twice-requires : tie.Need-twice-requires
 twice-requires c κs = search needs
