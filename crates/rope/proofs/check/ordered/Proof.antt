@@ -1,5 +1,5 @@
 use Prim.Native.Nat.{ℕ, _≤_}
-use mathlib.Core.Path.{sym, ap, subst, _∙_}
+use mathlib.Core.Path.{_≡_, sym, ap, subst, _∙_}
 use mathlib.Core.Bool.{Bool, _&&_}
 use lib.ListN.{length, replicate, length-replicate}
 use Rattle.span.specs.Units.{expand}
@@ -29,18 +29,23 @@ slice-aggregate-order-2 c = sym (length-replicate {A = ℕ} 65536 0)
 order-requires : tie.Need-order-requires
 order-requires c κs = let e = c .before .before .before in let p = e .pre in let h = enough (e .args .n) 65536 0 (p .2) in (p .0, p .1, h, h, p .2)
 
+-- the sort keeps the array's length
+kept : (c : tie.After-order) → length (c .order .last .1 .1 .0) ≡ 65536
+kept c = c .order .kept .1 .1 .0 ∙ length-replicate {A = ℕ} 65536 0
+
 slice-aggregate-origins-sorted : tie.Need-slice-aggregate-origins-sorted
-slice-aggregate-origins-sorted c = sym (c .before .before .before .before .order .kept .1 .1 .0 ∙ length-replicate {A = ℕ} 65536 0)
+slice-aggregate-origins-sorted c = sym (kept (c .before .before .before .before))
 
 origins-sorted-requires : tie.Need-origins-sorted-requires
 origins-sorted-requires c κs = let p = c .before .before .before .before .before .before .before .before .pre in
     (p .0, p .1, c .before .before .before .before .order .ensures (c .before .if1 .taken))
 
 slice-aggregate-twice : tie.Need-slice-aggregate-twice
-slice-aggregate-twice c = sym (c .before .before .before .before .order .kept .1 .1 .0 ∙ length-replicate {A = ℕ} 65536 0)
+slice-aggregate-twice c = sym (kept (c .before .before .before .before))
 
 twice-requires : tie.Need-twice-requires
-twice-requires c κs = search needs
+twice-requires c κs = let o = c .before .before .before .before .before .before .before .before in let p = o .pre in
+    (p .0, subst (λ (k : ℕ). o .args .n ≤ k) (sym (kept (c .before .before .before .before))) (p .2), p .2)
 
 plain-requires : tie.Need-plain-requires
 plain-requires c κs = search needs
