@@ -70,10 +70,10 @@ part-refuse-act-end-2 : tie.Need-part-refuse-act-end-2
 part-refuse-act-end-2 c = search needs
 
 sub-refuse-act-3 : tie.Need-sub-refuse-act-3
-sub-refuse-act-3 c = search needs
+sub-refuse-act-3 c = omega (arith, (c .before .before .before .before .before .before .before .before .before .before .before .before .before .before .before) .pre .1)
 
 part-refuse-act-start-3 : tie.Need-part-refuse-act-start-3
-part-refuse-act-start-3 c = search needs
+part-refuse-act-start-3 c = omega (arith, (c .before .before .before .before .before .before .before .before .before .before .before .before .before .before .before) .pre .1)
 
 part-refuse-act-end-3 : tie.Need-part-refuse-act-end-3
 part-refuse-act-end-3 c = search needs

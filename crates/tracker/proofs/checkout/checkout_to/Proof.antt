@@ -89,7 +89,7 @@ stand-requires c κs =
     let o = (c .before .before .before .before .before .before .before .before .before .before .before .before .before .before .before .before .before .before .before .before) in let x = o .args in to-stands (x .s .now) (x .t .now) (x .e .now) (o .pre .0) (x .v .now) (x .m) (o .pre .1) (omega (arith, (c .before .before .before .before .before .before .before .before .before .before .before .before .before .before .before) .if1 .left)) ((c .before .before .before .before .before .before .before .before .before .before .before .before .before .before) .edit-count .result) ((c .before .before .before .before .before .before .before .before .before .before .before .before .before .before) .edit-count .ensures) ((c .before .before .before .before .before .before .before .before .before .before .before .before) .version-code .result) ((c .before .before .before .before .before .before .before .before .before .before .before .before) .version-code .ensures) ((c .before .before .before .before .before .before .before .before .before .before .before) .if2 .left) ((c .before .before .before .before .before .before .before .before .before) .count .result) ((c .before .before .before .before .before .before .before .before .before) .count .ensures) ((c .before .before .before .before .before) .count-seen .result) ((c .before .before .before .before .before) .count-seen .ensures) ((c .before .before .before) .room .result) ((c .before .before .before) .room .ensures) (omega (arith, (c .before .before) .if3 .left))
 
 same-length-2 : tie.Need-same-length-2
-same-length-2 c = search needs
+same-length-2 c = (c .before .before) .stand .kept .0
 
 returns-4 : tie.Need-returns-4
 returns-4 c =
