@@ -32,6 +32,7 @@ shortest-requires c κs = search needs
 returns-2 : tie.Need-returns-2
 returns-2 c = diffed-refused _ _ _ _ _ _ _ _ 13 (rows-code-full _ _ (sym (c .before .before .before .before .all-real .ensures) ∙ not-false _ (c .before .before .before .if1 .left)) (omega (arith, c .if2 .taken, c .before .shortest .ensures, c .before .before .count-entries .ensures))) (λ z. omega arith)
 
+-- an order between two numbers holds of their equals
 fit : (k r e l : ℕ) → k ≤ r → r ≡ l → k ≡ e → e ≤ l
 fit k r e l h p q = omega arith
 
