@@ -1,8 +1,7 @@
 use Rattle.tracker.specs.Rows.{editIn}
 use Rattle.tracker.proofs.Checking.{well-edits, well-rows}
 use Rattle.tracker.proofs.Accepting.{can-take, took-small, log-asks, taken-leaves, arrive-refused}
-use mathlib.Core.Path.{_≡_, refl, sym, _∙_}
-use lib.ListN.{length}
+use mathlib.Core.Path.{refl, sym, _∙_}
 use native.Mathlib.Omega.{arith}
 use borrow.Author.Needs.{needs}
 use Rattle.tracker.proofs.arrive.arrive_row.Statement.{statement}
