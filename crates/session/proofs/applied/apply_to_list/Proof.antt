@@ -1,6 +1,7 @@
-use mathlib.Core.Path.{refl, sym}
+use Prim.Native.Nat.{ℕ}
+use mathlib.Core.Path.{refl, sym, _∙_}
+use lib.ListN.{replicate, length-replicate}
 use Rattle.session.proofs.AppliedLaws.{called-as, list-done, list-refused, or-next, or-refused}
-use borrow.Author.Needs.{needs}
 use Rattle.session.proofs.applied.apply_to_list.Statement.{statement}
 use Rattle.session.proofs.applied.apply_to_list.Tie as tie
 use Rattle.session.proofs.applied.apply_to_list.Reads as reads
@@ -10,36 +11,36 @@ use Rattle.session.proofs.applied.apply_entries.Reads as apply-entries-
 use Rattle.session.proofs.front.front_items.Reads as front-items-reads
 
 slice-aggregate-visible-items : tie.Need-slice-aggregate-visible-items
-slice-aggregate-visible-items c = search needs
+slice-aggregate-visible-items c = sym (length-replicate {A = ℕ} 589824 0)
 
 visible-items-requires : tie.Need-visible-items-requires
-visible-items-requires c κs = search needs
+visible-items-requires c κs = tt
 
 enum-known-m : tie.Need-enum-known-m
-enum-known-m c = search needs
+enum-known-m c = c .match .keys1
 
 slice-aggregate-front-items : tie.Need-slice-aggregate-front-items
-slice-aggregate-front-items c = search needs
+slice-aggregate-front-items c = sym (c .before .before .before .before .before .visible-items .kept .1 .0 ∙ length-replicate {A = ℕ} 589824 0)
 
 front-items-requires : tie.Need-front-items-requires
-front-items-requires c κs = search needs
+front-items-requires c κs = tt
 
 apply-entries-requires : tie.Need-apply-entries-requires
-apply-entries-requires c κs = search needs
+apply-entries-requires c κs = tt
 
 enum-known-code : tie.Need-enum-known-code
-enum-known-code c = search needs
+enum-known-code c = c .match .keys2
 
 same-length : tie.Need-same-length
-same-length c = search needs
+same-length c = c .before .before .apply-entries .kept .1 .1 .1 .1 .1 .1 .1 .1 .0
 
 returns : tie.Need-returns
 returns c =
-    let w = list-done _ _ (sym (slice-aggregate-visible-items (c .before .before .before .before .before .before .before .before .before .before .before))) (c .before .before .before .before .before .before .before .before .before .before .visible-items .ensures) _ (c .before .before .before .before .before .before .before .m .given .1) (c .before .before .before .before .front-items .ensures) in
+    let w = list-done _ (replicate 589824 0) (length-replicate {A = ℕ} 589824 0) (c .before .before .before .before .before .before .before .before .before .before .visible-items .ensures) _ (c .before .before .before .before .before .before .before .m .given .1) (c .before .before .before .before .front-items .ensures) in
     or-next _ _ 0 _ _ (w .0) (called-as _ refl refl refl refl refl refl (w .1) (c .before .before .apply-entries .ensures))
 
 returns-2 : tie.Need-returns-2
-returns-2 c = or-refused _ _ _ _ _ (list-refused _ _ (sym (slice-aggregate-visible-items (c .before .before .before .before .before))) (c .before .before .before .before .visible-items .ensures) _ (c .before .code .given .1))
+returns-2 c = or-refused _ _ _ _ _ (list-refused _ (replicate 589824 0) (length-replicate {A = ℕ} 589824 0) (c .before .before .before .before .visible-items .ensures) _ (c .before .code .given .1))
 
 pub apply-to-list-spec : {M : Type 1} → statement M
 apply-to-list-spec =
