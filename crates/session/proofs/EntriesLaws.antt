@@ -1,12 +1,12 @@
 -- the lines of the entries that a delta put into columns
-use mathlib.Core.Path.{_≡_, refl, sym, ap, _∙_}
+use mathlib.Core.Path.{_≡_, refl, sym, ap, subst, _∙_}
 use mathlib.Core.Bool.{Bool, true, false, cond}
 use mathlib.Core.List.{List, [], _∷_, _++_, map, map-append}
 use Prim.Native.Nat.{ℕ, zero, suc, _≤_, _<_}
 use native.Mathlib.Omega.{arith}
 use lib.Dec.{eqb}
-use lib.ListN.{length, take, getD, length-map, List·getD-append, List·getD-map}
-use lib.Seq.{take-suc, take-length}
+use lib.ListN.{length, take, getD, replicate, length-replicate, length-map, List·getD-append, List·getD-map}
+use lib.Seq.{take-suc, take-length, length-take-le}
 use mir.Syntax.{w32}
 use mir.Val.{SFits}
 use mir.Facts.{toZ-ofZ}
@@ -103,6 +103,17 @@ module _ (code : ℕ) (spans : List FugueSpan) (k a b p c l : List ℕ) {k2 a2 b
 -- columns that are all of one length
 pub lent : {k a b p c l n : ℕ} → k ≡ n → a ≡ n → b ≡ n → p ≡ n → c ≡ n → l ≡ n → least k a b p c l ≡ n
 lent e1 e2 e3 e4 e5 e6 = rw (e1, e2, e3, e4, e5, e6) (omega arith)
+
+-- an array of m zeros has a front of n, and the front has n
+pub in-zeros : (m : ℕ) {n : ℕ} → n ≤ m → n ≤ length (replicate {A = ℕ} m 0)
+in-zeros m {n} h = subst (λ (k : ℕ). n ≤ k) (sym (length-replicate {A = ℕ} m 0)) h
+
+pub front-long : (n m : ℕ) → n ≤ m → length (take n (replicate {A = ℕ} m 0)) ≡ n
+front-long n m h = length-take-le n (replicate m 0) (in-zeros m h)
+
+-- so columns that are such fronts are lent n entries
+pub lent-zeros : (n m : ℕ) → n ≤ m → (let k = length (take n (replicate {A = ℕ} m 0)) in least k k k k k k ≡ n)
+lent-zeros n m h = let e = front-long n m h in lent e e e e e e
 
 -- the same lines
 pub says-as : (at : ℕ) (s : List ℕ) {ls ms : List (List ℕ)} {r : ℕ} {t : List ℕ} → ls ≡ ms → Says at ls s r t → Says at ms s r t

@@ -4,11 +4,6 @@ use lib.ListN.{replicate, length-replicate}
 use Rattle.session.proofs.AppliedLaws.{called-as, list-done, list-refused, or-next, or-refused}
 use Rattle.session.proofs.applied.apply_to_list.Statement.{statement}
 use Rattle.session.proofs.applied.apply_to_list.Tie as tie
-use Rattle.session.proofs.applied.apply_to_list.Reads as reads
-use Rattle.session.proofs.applied.apply_to_list.Lts as lts
-use Rattle.apply.proofs.visible.visible_items.Reads as visible-items-reads
-use Rattle.session.proofs.applied.apply_entries.Reads as apply-entries-reads
-use Rattle.session.proofs.front.front_items.Reads as front-items-reads
 
 slice-aggregate-visible-items : tie.Need-slice-aggregate-visible-items
 slice-aggregate-visible-items c = sym (length-replicate {A = ℕ} 589824 0)
