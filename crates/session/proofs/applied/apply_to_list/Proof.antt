@@ -1,8 +1,6 @@
 use Prim.Native.Nat.{ℕ}
-use mathlib.Core.Path.{refl, sym}
-use lib.ListN.{replicate, length-replicate}
-use Rattle.rope.specs.Store.{spansOf}
-use Rattle.apply.specs.Called.{Called, shownItems, visibleCode}
+use mathlib.Core.Path.{_≡_, refl, sym, _∙_}
+use lib.ListN.{length, length-replicate}
 use Rattle.session.proofs.EntriesLaws.{as-long}
 use Rattle.session.proofs.AppliedLaws.{called-as, list-done, list-refused, or-next, or-refused}
 use Rattle.session.proofs.applied.apply_to_list.Statement.{statement}
@@ -17,8 +15,12 @@ visible-items-requires c κs = tt
 enum-known-m : tie.Need-enum-known-m
 enum-known-m c = c .match .keys1
 
+-- the old list's bytes, after the call too
+long : (c : tie.After-visible-items) → 589824 ≡ length (c .visible-items .last .1 .0)
+long c = as-long 589824 (c .visible-items .last .1 .0) (c .visible-items .kept .1 .0)
+
 slice-aggregate-front-items : tie.Need-slice-aggregate-front-items
-slice-aggregate-front-items c = let v = c .before .before .before .before .before .visible-items in as-long 589824 (v .last .1 .0) (v .kept .1 .0)
+slice-aggregate-front-items c = long (c .before .before .before .before .before)
 
 front-items-requires : tie.Need-front-items-requires
 front-items-requires c κs = tt
@@ -32,18 +34,16 @@ enum-known-code c = c .match .keys2
 same-length : tie.Need-same-length
 same-length c = c .before .before .apply-entries .kept .1 .1 .1 .1 .1 .1 .1 .1 .0
 
--- the old list, as it was put into zeros
-shown : (c : tie.After-visible-items) → let s = c .before .before .before .before .before .before .before .before .before .before .args .s .now in
-    Called (visibleCode s (replicate 589824 0)) (shownItems (spansOf s)) (replicate 589824 0) (c .visible-items .result) (c .visible-items .last .1 .0)
-shown c = c .visible-items .ensures
-
 returns : tie.Need-returns
 returns c =
-    let w = list-done _ _ (length-replicate {A = ℕ} 589824 0) (shown (c .before .before .before .before .before .before .before .before .before .before)) _ (c .before .before .before .before .before .before .before .m .given .1) (c .before .before .before .before .front-items .ensures) in
+    let v = c .before .before .before .before .before .before .before .before .before .before .visible-items in
+    let w = list-done _ _ (sym (long (c .before .before .before .before .before .before .before .before .before .before) ∙ v .kept .1 .0)) (v .ensures) _ (c .before .before .before .before .before .before .before .m .given .1) (c .before .before .before .before .front-items .ensures) in
     or-next _ _ 0 _ _ (w .0) (called-as _ refl refl refl refl refl refl (w .1) (c .before .before .apply-entries .ensures))
 
 returns-2 : tie.Need-returns-2
-returns-2 c = or-refused _ _ _ _ _ (list-refused _ _ (length-replicate {A = ℕ} 589824 0) (shown (c .before .before .before .before)) _ (c .before .code .given .1))
+returns-2 c =
+    let v = c .before .before .before .before .visible-items in
+    or-refused _ _ _ _ _ (list-refused _ _ (sym (long (c .before .before .before .before) ∙ v .kept .1 .0)) (v .ensures) _ (c .before .code .given .1))
 
 pub apply-to-list-spec : {M : Type 1} → statement M
 apply-to-list-spec =
