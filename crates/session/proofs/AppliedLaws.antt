@@ -6,7 +6,7 @@ use Prim.Native.Nat.{ℕ, _+_, _*_, _/_}
 use native.Mathlib.Omega.{arith}
 use borrow.Author.Tests.{ne-eqb, eqb-true, eqb-false}
 use lib.Dec.{eqb}
-use lib.ListN.{length, take, drop}
+use lib.ListN.{length, take, drop, replicate, length-replicate}
 use lib.Seq.{take-at}
 use Rattle.words.specs.Le.{put}
 use Rattle.span.specs.Answer.{answer}
@@ -81,6 +81,18 @@ module _ (s old : List ℕ) (h : length old ≡ 589824) {r : ApplyAnswer} {old2 
   list-refused j e =
       let w = answer-refused (visibleCode s old) (length (shownItems (spansOf s))) j (sym e ∙ d .said) in
       (w .0 ∙ code-is, w .1)
+
+-- what the call that lists into 589,824 zeros tells, with the zeros left out
+pub record Shown (s : List ℕ) (r : ApplyAnswer) (old2 : List ℕ) : Type 0 where
+  pub long : 589824 ≡ length old2
+  pub done : (m : ℕ) {f : List ℕ} → r ≡ Done m → f ≡ take (m * 24) old2 → (listCode s ≡ 0) × (f ≡ listRows s)
+  pub refused : (j : ℕ) → r ≡ Refused j → (j ≡ listCode s) × (j ≡ 0 → ⊥)
+
+pub is-shown : (s : List ℕ) {r : ApplyAnswer} (old2 : List ℕ) → length old2 ≡ length (replicate {A = ℕ} 589824 0)
+    → Called (visibleCode s (replicate 589824 0)) (shownItems (spansOf s)) (replicate 589824 0) r old2 → Shown s r old2
+is-shown s old2 e d =
+    let h = length-replicate {A = ℕ} 589824 0 in
+    record { long = sym (e ∙ h); done = λ m {f} p q. list-done s (replicate 589824 0) h d m p q; refused = list-refused s (replicate 589824 0) h d }
 
 -- a refusal goes before the next call
 module _ (first next j : ℕ) (new : List Item) (out : List ℕ) where

@@ -111,10 +111,6 @@ in-zeros m {n} h = subst (λ (k : ℕ). n ≤ k) (sym (length-replicate {A = ℕ
 pub front-long : (n m : ℕ) → n ≤ m → length (take n (replicate {A = ℕ} m 0)) ≡ n
 front-long n m h = length-take-le n (replicate m 0) (in-zeros m h)
 
--- a list as long as such an array
-pub as-long : (m : ℕ) (l : List ℕ) → length l ≡ length (replicate {A = ℕ} m 0) → m ≡ length l
-as-long m l e = sym (e ∙ length-replicate {A = ℕ} m 0)
-
 -- columns that are fronts of such arrays are lent n entries
 pub lent-zeros : (n m : ℕ) → n ≤ m → (let k = length (take n (replicate {A = ℕ} m 0)) in least k k k k k k ≡ n)
 lent-zeros n m h = let e = front-long n m h in lent e e e e e e

@@ -1,8 +1,7 @@
 use Prim.Native.Nat.{ℕ}
-use mathlib.Core.Path.{_≡_, refl, sym, _∙_}
-use lib.ListN.{length, length-replicate}
-use Rattle.session.proofs.EntriesLaws.{as-long}
-use Rattle.session.proofs.AppliedLaws.{called-as, list-done, list-refused, or-next, or-refused}
+use mathlib.Core.Path.{refl, sym}
+use lib.ListN.{length-replicate}
+use Rattle.session.proofs.AppliedLaws.{Shown, is-shown, called-as, or-next, or-refused}
 use Rattle.session.proofs.applied.apply_to_list.Statement.{statement}
 use Rattle.session.proofs.applied.apply_to_list.Tie as tie
 
@@ -15,12 +14,12 @@ visible-items-requires c κs = tt
 enum-known-m : tie.Need-enum-known-m
 enum-known-m c = c .match .keys1
 
--- the old list's bytes, after the call too
-long : (c : tie.After-visible-items) → 589824 ≡ length (c .visible-items .last .1 .0)
-long c = as-long 589824 (c .visible-items .last .1 .0) (c .visible-items .kept .1 .0)
+-- what the call tells of the old list
+shown : (c : tie.After-visible-items) → Shown (c .before .before .before .before .before .before .before .before .before .before .args .s .now) (c .visible-items .result) (c .visible-items .last .1 .0)
+shown c = let v = c .visible-items in is-shown (c .before .before .before .before .before .before .before .before .before .before .args .s .now) (v .last .1 .0) (v .kept .1 .0) (v .ensures)
 
 slice-aggregate-front-items : tie.Need-slice-aggregate-front-items
-slice-aggregate-front-items c = long (c .before .before .before .before .before)
+slice-aggregate-front-items c = shown (c .before .before .before .before .before) .long
 
 front-items-requires : tie.Need-front-items-requires
 front-items-requires c κs = tt
@@ -36,14 +35,11 @@ same-length c = c .before .before .apply-entries .kept .1 .1 .1 .1 .1 .1 .1 .1 .
 
 returns : tie.Need-returns
 returns c =
-    let v = c .before .before .before .before .before .before .before .before .before .before .visible-items in
-    let w = list-done _ _ (sym (long (c .before .before .before .before .before .before .before .before .before .before) ∙ v .kept .1 .0)) (v .ensures) _ (c .before .before .before .before .before .before .before .m .given .1) (c .before .before .before .before .front-items .ensures) in
+    let w = shown (c .before .before .before .before .before .before .before .before .before .before) .done _ (c .before .before .before .before .before .before .before .m .given .1) (c .before .before .before .before .front-items .ensures) in
     or-next _ _ 0 _ _ (w .0) (called-as _ refl refl refl refl refl refl (w .1) (c .before .before .apply-entries .ensures))
 
 returns-2 : tie.Need-returns-2
-returns-2 c =
-    let v = c .before .before .before .before .visible-items in
-    or-refused _ _ _ _ _ (list-refused _ _ (sym (long (c .before .before .before .before) ∙ v .kept .1 .0)) (v .ensures) _ (c .before .code .given .1))
+returns-2 c = or-refused _ _ _ _ _ (shown (c .before .before .before .before) .refused _ (c .before .code .given .1))
 
 pub apply-to-list-spec : {M : Type 1} → statement M
 apply-to-list-spec =
