@@ -14,8 +14,8 @@ use Rattle.span.specs.Units.{tab}
 use Rattle.span.proofs.ListLaws.{tab-from}
 use Rattle.store.specs.Row.{bits32}
 use Rattle.rope.specs.declared.diff.EntryNumbers.{EntryNumbers}
-use Rattle.rope.specs.declared.diff.Entry.{Entry}
-use Rattle.rope.specs.Lists.{over}
+use Rattle.units.specs.declared.diff.Entry.{Entry}
+use Rattle.units.specs.Lists.{over}
 use Rattle.rope.specs.Columns.{entryNumbers, column, least}
 use Rattle.apply.specs.declared.item.Item.{Item}
 use Rattle.apply.specs.Apply.{Given, Known}

@@ -14,12 +14,12 @@ use Rattle.span.specs.declared.span.FugueSpan.{FugueSpan}
 use Rattle.span.specs.Answer.{answer}
 use Rattle.span.specs.Units.{expand}
 use Rattle.span.proofs.AnswerLaws.{is-done}
-use Rattle.rope.specs.Lists.{every, over}
-use Rattle.rope.specs.Codes.{unless, kept}
+use Rattle.units.specs.Lists.{every, over}
+use Rattle.units.specs.Codes.{unless, kept}
 use Rattle.rope.specs.Spans.{AllOk}
-use Rattle.rope.specs.Store.{count, spansOf, isState}
-use Rattle.rope.specs.declared.diff.Entry.{Entry}
-use Rattle.rope.specs.Delta.{insertable, entries}
+use Rattle.units.specs.Store.{count, spansOf, isState}
+use Rattle.units.specs.declared.diff.Entry.{Entry}
+use Rattle.units.specs.Delta.{insertable, entries}
 use Rattle.rope.specs.declared.diff.EntryNumbers.{EntryNumbers}
 use Rattle.rope.specs.declared.diff.DiffAnswer.{DiffAnswer}
 use Rattle.rope.specs.declared.diff.DiffAnswer.the-variants as Diff

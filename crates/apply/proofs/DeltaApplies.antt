@@ -22,12 +22,12 @@ use Rattle.span.specs.Status.{activated}
 use Rattle.span.specs.Span.{lenSpan, shift, diffBy, diffOf, activeBy, activeInDiff, realOf, activeLen}
 use Rattle.span.specs.Units.{tab, unitAt, unitsOf, expand, join}
 use Rattle.span.proofs.Unique.{AllUnits, expand-join}
-use Rattle.rope.specs.Lists.{keepIf}
-use Rattle.rope.specs.Change.{withState}
-use Rattle.rope.specs.Query.{visibles}
-use Rattle.rope.specs.declared.diff.Entry.{Entry}
-use Rattle.rope.specs.declared.diff.Entry.the-variants.{Retain, Delete}
-use Rattle.rope.specs.Delta.{insertOfSpan, retain, entryBy, entriesFrom, entries}
+use Rattle.units.specs.Lists.{keepIf}
+use Rattle.units.specs.Change.{withState}
+use Rattle.units.specs.Query.{visibles}
+use Rattle.units.specs.declared.diff.Entry.{Entry}
+use Rattle.units.specs.declared.diff.Entry.the-variants.{Retain, Delete}
+use Rattle.units.specs.Delta.{insertOfSpan, retain, entryBy, entriesFrom, entries}
 use Rattle.rope.proofs.Reals.{real-part}
 use Rattle.apply.specs.declared.item.Item.{Item}
 use Rattle.apply.specs.Apply.{Given, Known, itemOf, items, newUnit, orStatus, itemAt, itemsOf, applied}

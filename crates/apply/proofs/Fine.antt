@@ -18,13 +18,13 @@ use Rattle.span.specs.Span.{lenSpan, spanCode, activeLen, realBy, realOf, diffO
 use Rattle.span.specs.Units.{unitsOf, expand}
 use Rattle.span.proofs.SpanLaws.{span-ok}
 use Rattle.span.proofs.Views.{len-pos}
-use Rattle.rope.specs.Lists.{every}
+use Rattle.units.specs.Lists.{every}
 use Rattle.rope.specs.Spans.{AllOk}
-use Rattle.rope.specs.declared.diff.OptLamport.{OptLamport}
-use Rattle.rope.specs.declared.diff.OptLamport.the-variants.{Nothing, At}
-use Rattle.rope.specs.declared.diff.Entry.{Entry}
-use Rattle.rope.specs.declared.diff.Entry.the-variants.{Retain, Delete, Insert}
-use Rattle.rope.specs.Delta.{lamportOf, insertOfSpan, retain, entryBy, entriesFrom, entries, isReal, realIfCreated, insertable}
+use Rattle.units.specs.declared.diff.OptLamport.{OptLamport}
+use Rattle.units.specs.declared.diff.OptLamport.the-variants.{Nothing, At}
+use Rattle.units.specs.declared.diff.Entry.{Entry}
+use Rattle.units.specs.declared.diff.Entry.the-variants.{Retain, Delete, Insert}
+use Rattle.units.specs.Delta.{lamportOf, insertOfSpan, retain, entryBy, entriesFrom, entries, isReal, realIfCreated, insertable}
 use Rattle.rope.specs.Columns.{entryNumbers}
 use Rattle.rope.proofs.Lists.{and-true}
 use Rattle.apply.specs.Apply.{Known, items, used, lamportFits, entryFormed, entryIds, entryKnown}

@@ -11,7 +11,7 @@ use lib.Seq.{length-take-le}
 use borrow.Author.Tests.{le-leb, lt-leb}
 use Rattle.span.specs.Units.{tab}
 use Rattle.span.proofs.ChunkLaws.{leb-iff}
-use Rattle.rope.specs.declared.diff.Entry.the-variants.{Retain, Delete, Insert}
+use Rattle.units.specs.declared.diff.Entry.the-variants.{Retain, Delete, Insert}
 use Rattle.apply.specs.declared.item.Item.{Item}
 use Rattle.apply.specs.Apply.{Given, Known, Strange, applied, used}
 use Rattle.apply.specs.Given.{takes, gives, made, newLen}

@@ -15,10 +15,10 @@ use Rattle.span.proofs.Same.{sameId-true}
 use Rattle.span.proofs.ListLaws.{tab-from, tab-add}
 use Rattle.span.proofs.Views.{JoinView, join-view}
 use Rattle.span.proofs.JoinLaws.{merged-len, merged-left, merged-right, merged-formed}
-use Rattle.rope.specs.Lists.{every}
-use Rattle.rope.specs.declared.diff.Entry.{Entry}
-use Rattle.rope.specs.declared.diff.Entry.the-variants.{Retain, Delete, Insert}
-use Rattle.rope.specs.Delta.{lamportsRun, like, sizeOf, mergedEntry, joinEntry, joinEntries}
+use Rattle.units.specs.Lists.{every}
+use Rattle.units.specs.declared.diff.Entry.{Entry}
+use Rattle.units.specs.declared.diff.Entry.the-variants.{Retain, Delete, Insert}
+use Rattle.units.specs.Delta.{lamportsRun, like, sizeOf, mergedEntry, joinEntry, joinEntries}
 use Rattle.rope.proofs.Lists.{and-true}
 use Rattle.apply.specs.declared.item.Item.{Item}
 use Rattle.apply.specs.Apply.{Given, Known, itemAt, itemsOf, applied, entryFormed}

@@ -15,9 +15,9 @@ use Rattle.span.proofs.AnswerLaws.{lower-by}
 use Rattle.span.specs.Chunk.{lenOf, formed}
 use Rattle.span.specs.Ids.{roomOf, roomOpt}
 use Rattle.span.specs.Units.{tab}
-use Rattle.rope.specs.declared.diff.OptLamport.{OptLamport}
-use Rattle.rope.specs.declared.diff.Entry.the-variants.{Retain, Delete, Insert}
-use Rattle.rope.specs.Lists.{every}
+use Rattle.units.specs.declared.diff.OptLamport.{OptLamport}
+use Rattle.units.specs.declared.diff.Entry.the-variants.{Retain, Delete, Insert}
+use Rattle.units.specs.Lists.{every}
 use Rattle.rope.specs.Columns.{Hold}
 use Rattle.apply.specs.declared.item.Item.{Item}
 use Rattle.apply.specs.Apply.{Given, Known, lamportFits, itemFormed, itemIds, itemSingle, entryFormed, entryIds, entryKnown, used, applied, applyCode}

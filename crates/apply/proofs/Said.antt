@@ -5,8 +5,8 @@ use mathlib.Core.Bool.{Bool, true, false, cond}
 use lib.Dec.{eqb, ltb}
 use borrow.Author.Tests.{eq-eqb, ne-eqb, lt-ltb, le-ltb}
 use Rattle.rope.specs.declared.diff.EntryNumbers.{EntryNumbers}
-use Rattle.rope.specs.declared.diff.OptLamport.the-variants.{Nothing, At}
-use Rattle.rope.specs.declared.diff.Entry.the-variants.{Retain, Delete}
+use Rattle.units.specs.declared.diff.OptLamport.the-variants.{Nothing, At}
+use Rattle.units.specs.declared.diff.Entry.the-variants.{Retain, Delete}
 use Rattle.apply.specs.Apply.{Known, Strange}
 use Rattle.apply.specs.Given.{insertGiven, givenOf}
 

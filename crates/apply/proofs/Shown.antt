@@ -14,11 +14,11 @@ use Rattle.span.specs.Status.{activated}
 use Rattle.span.specs.Span.{lenSpan, spanCode, activeLen}
 use Rattle.span.specs.Units.{unitsOf, expand}
 use Rattle.store.specs.Row.{rows, rowAt}
-use Rattle.rope.specs.Lists.{keepIf}
-use Rattle.rope.specs.Query.{visibles}
-use Rattle.rope.specs.Place.{shown}
+use Rattle.units.specs.Lists.{keepIf}
+use Rattle.units.specs.Query.{visibles}
+use Rattle.units.specs.Place.{shown}
 use Rattle.rope.specs.Spans.{Stored}
-use Rattle.rope.specs.Store.{count, spansOf, isState}
+use Rattle.units.specs.Store.{count, spansOf, isState}
 use Rattle.rope.proofs.Rights.{row-drop, row-ok, row-none}
 use Rattle.rope.proofs.WellFormed.{formed-of}
 use Rattle.rope.proofs.States.{part, part-spans}

@@ -28,8 +28,8 @@ use Rattle.span.proofs.UnitLaws.{part-ok, part-length}
 use Rattle.span.proofs.Unique.{in-range}
 use Rattle.span.proofs.Views.{PartView, text-part, unknown-part, anchor-part, part-view, part-text, part-unknown, part-anchor}
 use Rattle.store.specs.Row.{rows, rowAt, spanOf, wordsAt, idOf, optOf, lowOf, u64At, u32At}
-use Rattle.rope.specs.Lists.{every, keepIf}
-use Rattle.rope.specs.Query.{visibles}
+use Rattle.units.specs.Lists.{every, keepIf}
+use Rattle.units.specs.Query.{visibles}
 use Rattle.rope.specs.Spans.{AllOk}
 use Rattle.rope.proofs.Lists.{and-true}
 use Rattle.rope.proofs.Reals.{real-part}

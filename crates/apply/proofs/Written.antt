@@ -21,7 +21,7 @@ use Rattle.span.proofs.AnswerLaws.{lower-zero}
 use Rattle.span.proofs.IdsLaws.{roomy, room-opt}
 use Rattle.span.proofs.ListLaws.{tab-from}
 use Rattle.span.proofs.UnitLaws.{span-of}
-use Rattle.rope.specs.declared.diff.OptLamport.{OptLamport}
+use Rattle.units.specs.declared.diff.OptLamport.{OptLamport}
 use Rattle.apply.specs.declared.item.Item.{Item}
 use Rattle.apply.specs.Apply.{Given, itemOf, itemAt, itemsOf, lamportFits, applied, used}
 use Rattle.apply.specs.Items.{itemsIn, itemsBytes}

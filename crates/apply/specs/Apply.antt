@@ -16,13 +16,13 @@ use Rattle.span.specs.Chunk.{lenOf, formed, partChunk}
 use Rattle.span.specs.Ids.{incId, roomOf, roomOpt}
 use Rattle.span.specs.Span.{realOf}
 use Rattle.span.specs.Units.{tab}
-use Rattle.rope.specs.Lists.{every, over}
-use Rattle.rope.specs.declared.diff.OptLamport.{OptLamport}
-use Rattle.rope.specs.declared.diff.OptLamport.the-variants.{Nothing, At}
-use Rattle.rope.specs.declared.diff.Entry.the-variants.{Retain, Delete, Insert}
-use Rattle.rope.specs.Query.{visibles}
-use Rattle.rope.specs.Codes.{unless, kept}
-use Rattle.rope.specs.Change.{withState}
+use Rattle.units.specs.Lists.{every, over}
+use Rattle.units.specs.declared.diff.OptLamport.{OptLamport}
+use Rattle.units.specs.declared.diff.OptLamport.the-variants.{Nothing, At}
+use Rattle.units.specs.declared.diff.Entry.the-variants.{Retain, Delete, Insert}
+use Rattle.units.specs.Query.{visibles}
+use Rattle.units.specs.Codes.{unless, kept}
+use Rattle.units.specs.Change.{withState}
 use Rattle.apply.specs.declared.item.Item.{Item}
 -- an entry as it is handed in: one of the three kinds, or none of them
 pub use Rattle.apply.specs.declared.given.Given.{Given}

@@ -8,8 +8,8 @@ use Rattle.words.specs.Le.{put}
 use Rattle.span.specs.Answer.{answer}
 use Rattle.span.specs.declared.span.FugueSpan.{FugueSpan}
 use Rattle.span.specs.Units.{expand}
-use Rattle.rope.specs.Store.{spansOf, isState}
-use Rattle.rope.specs.Codes.{unless, kept}
+use Rattle.units.specs.Store.{spansOf, isState}
+use Rattle.units.specs.Codes.{unless, kept}
 use Rattle.apply.specs.declared.item.Item.{Item}
 use Rattle.apply.specs.declared.delta.ApplyAnswer.{ApplyAnswer}
 use Rattle.apply.specs.declared.delta.ApplyAnswer.the-variants.{Done, Refused}

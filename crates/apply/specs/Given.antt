@@ -16,10 +16,10 @@ use Rattle.span.specs.Answer.{lower}
 use Rattle.span.specs.Units.{tab}
 use Rattle.store.specs.Row.{idOf}
 use Rattle.rope.specs.declared.diff.EntryNumbers.{EntryNumbers}
-use Rattle.rope.specs.declared.diff.OptLamport.{OptLamport}
-use Rattle.rope.specs.declared.diff.OptLamport.the-variants.{Nothing, At}
-use Rattle.rope.specs.declared.diff.Entry.the-variants.{Retain, Delete, Insert}
-use Rattle.rope.specs.Codes.{unless}
+use Rattle.units.specs.declared.diff.OptLamport.{OptLamport}
+use Rattle.units.specs.declared.diff.OptLamport.the-variants.{Nothing, At}
+use Rattle.units.specs.declared.diff.Entry.the-variants.{Retain, Delete, Insert}
+use Rattle.units.specs.Codes.{unless}
 use Rattle.rope.specs.Columns.{numbers, least}
 use Rattle.apply.specs.declared.item.Item.{Item}
 use Rattle.apply.specs.Apply.{Given, Known, Strange, itemsOf, lamportFits, entryFormed, entryIds, entryKnown, itemFormed, itemIds, itemSingle}

@@ -14,12 +14,12 @@ use Rattle.span.specs.Units.{tab}
 use Rattle.store.specs.Row.{rows, wordsAt, spanOf, flagsOf, wordsOf, wordBytes, rowBytes}
 use Rattle.store.specs.Header.{count, room, spansOf, headerBytes}
 use Rattle.rope.specs.declared.diff.EntryNumbers.{EntryNumbers}
-use Rattle.rope.specs.declared.change.SetFuture.the-variants.{Keep}
-use Rattle.rope.specs.Store.{isState}
-use Rattle.rope.specs.Codes.{updateOf}
-use Rattle.rope.specs.Delta.{entries}
+use Rattle.units.specs.declared.change.SetFuture.the-variants.{Keep}
+use Rattle.units.specs.Store.{isState}
+use Rattle.units.specs.Codes.{updateOf}
+use Rattle.units.specs.Delta.{entries}
 use Rattle.rope.specs.Columns.{numbers, entryNumbers, diffRowsCode, getDiffCode}
-use Rattle.rope.specs.Open.{ropeOpen}
+use Rattle.units.specs.Open.{ropeOpen}
 use Rattle.apply.specs.declared.item.Item.{Item}
 use Rattle.apply.specs.Apply.{itemOf, items, itemAt, itemsOf, applied, lamportFits, entryFormed, entryIds, entryKnown, used, itemFormed, itemIds, itemSingle, applyCode}
 use Rattle.apply.specs.Items.{itemIn, itemsIn, itemBytes, itemsBytes}

@@ -20,7 +20,6 @@ use crate::item::Item;
 use crate::item::copy_items;
 use crate::item::get_item;
 use crate::item::put_units;
-use rope::diff::Entry;
 use rope::diff::shortest;
 use span::chunk::RichtextChunk;
 use span::ids::Id;
@@ -28,6 +27,7 @@ use span::ids::OptId;
 use span::span::FugueSpan;
 use span::span::OptStatus;
 use span::status::Status;
+use units::diff::Entry;
 
 // How many items there are now, or the number of the refusal.
 pub enum ApplyAnswer {

@@ -4,12 +4,12 @@ ghost use Prim.Native.Nat.{_+_, _<_};
 ghost use Rattle.rope.specs.Columns.{Hold};
 ghost use Rattle.apply.specs.Apply.{lamportFits};
 ghost use Rattle.apply.specs.Given.{insertGiven, givenOf, givenAt, takes, gives, givenCode, insertCode, lenCode};
-use rope::diff::Entry;
 use rope::diff::EntryNumbers;
-use rope::diff::OptLamport;
 use span::chunk::RichtextChunk;
 use span::ids::Id;
 use span::ids::OptId;
+use units::diff::Entry;
+use units::diff::OptLamport;
 
 // An entry of a known kind, or none.
 pub enum Given {

@@ -6,7 +6,7 @@ ghost use Rattle.words.specs.Le.{put};
 ghost use Rattle.span.specs.Span.{spanCode, activeLen};
 ghost use Rattle.span.specs.Units.{unitsOf};
 ghost use Rattle.store.specs.Row.{rows};
-ghost use Rattle.rope.specs.Store.{spansOf};
+ghost use Rattle.units.specs.Store.{spansOf};
 ghost use Rattle.rope.specs.Spans.{Stored};
 ghost use Rattle.apply.specs.Apply.{items};
 ghost use Rattle.apply.specs.Items.{itemsBytes};

@@ -11,7 +11,7 @@ use Rattle.span.specs.declared.ids.OptId.{OptId}
 use Rattle.span.specs.declared.ids.OptId.the-variants.{Nothing, At}
 use Rattle.span.specs.declared.span.FugueSpan.{FugueSpan}
 use Rattle.span.specs.Ids.{sameOpt}
-use Rattle.rope.specs.Place.{hasOl, parentRight}
+use Rattle.units.specs.Place.{hasOl, parentRight}
 use Rattle.fugue.specs.Tree.{ref, ol, or, prOf}
 use Rattle.fugue.proofs.Keys.{Key, sl, sr, Lt}
 use Rattle.fugue.proofs.Hang.{Hung, hungR, hungL}

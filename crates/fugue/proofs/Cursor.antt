@@ -10,7 +10,7 @@ use Rattle.span.specs.declared.ids.OptId.the-variants.{Nothing}
 use Rattle.span.specs.declared.span.FugueSpan.{FugueSpan}
 use Rattle.span.specs.Ids.{sameOpt}
 use Rattle.span.specs.Status.{activated}
-use Rattle.rope.specs.Place.{upTo, firstPast, front, behind, lastId, putAt}
+use Rattle.units.specs.Place.{upTo, firstPast, front, behind, lastId, putAt}
 use Rattle.fugue.specs.Tree.{ref, ol, or, prOf}
 use Rattle.fugue.proofs.Order.{Tri, tlt, teq, tgt}
 use Rattle.fugue.proofs.Keys.{Key, Lt, Lt-trans, tri}

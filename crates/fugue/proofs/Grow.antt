@@ -7,7 +7,7 @@ use Rattle.span.specs.declared.ids.OptId.{OptId}
 use Rattle.span.specs.declared.ids.OptId.the-variants.{Nothing}
 use Rattle.span.specs.declared.span.FugueSpan.{FugueSpan}
 use Rattle.span.specs.Ids.{sameOpt}
-use Rattle.rope.specs.Place.{hasOl, parentRight}
+use Rattle.units.specs.Place.{hasOl, parentRight}
 use Rattle.fugue.specs.Tree.{ref, ol, or, prOf}
 use Rattle.fugue.proofs.Order.{Tri, tlt, teq, tgt}
 use Rattle.fugue.proofs.Keys.{Key, Step, IsR, Lt, Lt-irrefl, Lt-trans, Lt-asym, tri, LR-no}

@@ -12,9 +12,9 @@ use Rattle.span.specs.declared.ids.OptId.{OptId}
 use Rattle.span.specs.declared.ids.OptId.the-variants.{Nothing}
 use Rattle.span.specs.declared.span.FugueSpan.{FugueSpan}
 use Rattle.span.specs.Ids.{sameOpt}
-use Rattle.rope.specs.declared.place.Verdict.{Verdict}
-use Rattle.rope.specs.declared.place.Verdict.the-variants.{Stop, Clear, Keep}
-use Rattle.rope.specs.Place.{memId, hasOl, posOf, prPos, parentRight, byPos, sibling, verdict}
+use Rattle.units.specs.declared.place.Verdict.{Verdict}
+use Rattle.units.specs.declared.place.Verdict.the-variants.{Stop, Clear, Keep}
+use Rattle.units.specs.Place.{memId, hasOl, posOf, prPos, parentRight, byPos, sibling, verdict}
 use Rattle.fugue.specs.Tree.{ref, ol, or, prOf}
 use Rattle.fugue.proofs.Order.{Tri, tlt, teq, tgt}
 use Rattle.fugue.proofs.Keys.{Key, Lt, tri}

@@ -14,7 +14,7 @@ use Rattle.span.specs.Ids.{incId}
 use Rattle.span.proofs.IdsLaws.{inc-zero}
 use Rattle.span.specs.Span.{lenSpan, shift, leftOf}
 use Rattle.span.specs.Units.{tab, unitAt, unitsOf}
-use Rattle.rope.specs.Place.{hasOl, parentRight, firstPast, front, behind, lastId, putAt, scanPlace, withOrigins, originLeft, originRight, insertUnits}
+use Rattle.units.specs.Place.{hasOl, parentRight, firstPast, front, behind, lastId, putAt, scanPlace, withOrigins, originLeft, originRight, insertUnits}
 use Rattle.fugue.specs.Tree.{ref, ol, or, prOf}
 use Rattle.fugue.proofs.Order.{Older, older-no, inc-older, older-inc}
 use Rattle.fugue.proofs.Keys.{Key, Lt, Lt-trans}

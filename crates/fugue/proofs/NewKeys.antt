@@ -13,7 +13,7 @@ use Rattle.span.specs.declared.ids.OptId.the-variants.{Nothing, At}
 use Rattle.span.specs.declared.span.FugueSpan.{FugueSpan}
 use Rattle.span.specs.Ids.{incId, sameOpt}
 use Rattle.span.proofs.IdsLaws.{inc-zero}
-use Rattle.rope.specs.Place.{hasOl, parentRight}
+use Rattle.units.specs.Place.{hasOl, parentRight}
 use Rattle.fugue.specs.Tree.{ref, ol}
 use Rattle.fugue.proofs.Order.{Older, older-no, inc-older, older-inc}
 use Rattle.fugue.proofs.Keys.{Key, sl, sr}

@@ -10,9 +10,9 @@ use Rattle.span.specs.declared.ids.OptId.{OptId}
 use Rattle.span.specs.declared.ids.OptId.the-variants.{Nothing}
 use Rattle.span.specs.declared.span.FugueSpan.{FugueSpan}
 use Rattle.span.specs.Status.{activated, eqZ}
-use Rattle.rope.specs.Place.{front, behind, lastId, firstPast, originLeft, originRight, shown}
-use Rattle.rope.specs.Lists.{keepIf}
-use Rattle.rope.specs.Change.{firstShown, taken}
+use Rattle.units.specs.Place.{front, behind, lastId, firstPast, originLeft, originRight, shown}
+use Rattle.units.specs.Lists.{keepIf}
+use Rattle.units.specs.Change.{firstShown, taken}
 use Rattle.fugue.specs.Tree.{ref}
 use Rattle.fugue.proofs.ScanPlace.{Mem}
 

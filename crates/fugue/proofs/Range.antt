@@ -8,8 +8,8 @@ use Rattle.span.specs.declared.ids.Id.{Id}
 use Rattle.span.specs.declared.ids.OptId.{OptId}
 use Rattle.span.specs.declared.ids.OptId.the-variants.{Nothing, At}
 use Rattle.span.specs.declared.span.FugueSpan.{FugueSpan}
-use Rattle.rope.specs.declared.place.Verdict.{Verdict}
-use Rattle.rope.specs.Place.{hasOl, prPos, parentRight, verdict, run, upTo, behind, scanPlace}
+use Rattle.units.specs.declared.place.Verdict.{Verdict}
+use Rattle.units.specs.Place.{hasOl, prPos, parentRight, verdict, run, upTo, behind, scanPlace}
 use Rattle.fugue.specs.Tree.{ref, ol, prOf}
 use Rattle.fugue.proofs.Order.{Tri, tlt, teq, tgt, Older, older-no}
 use Rattle.fugue.proofs.Keys.{Key, Lt, Lt-irrefl, Lt-trans, Lt-asym, tri}

@@ -6,8 +6,8 @@ use mathlib.Core.List.{List, [], _∷_, _++_, List·Memᴰ·head, List·Memᴰ·
 use Rattle.span.specs.declared.ids.OptId.{OptId}
 use Rattle.span.specs.declared.span.FugueSpan.{FugueSpan}
 use Rattle.span.specs.Ids.{sameOpt}
-use Rattle.rope.specs.Lists.{keepIf}
-use Rattle.rope.specs.Place.{hasOl}
+use Rattle.units.specs.Lists.{keepIf}
+use Rattle.units.specs.Place.{hasOl}
 use Rattle.fugue.specs.Tree.{ref, ol}
 use Rattle.fugue.proofs.Order.{LtId}
 use Rattle.fugue.proofs.Keys.{Key, Lt, Lt-irrefl, Lt-asym}

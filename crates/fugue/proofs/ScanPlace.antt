@@ -12,9 +12,9 @@ use Rattle.span.specs.declared.ids.Id.{Id}
 use Rattle.span.specs.declared.ids.OptId.{OptId}
 use Rattle.span.specs.declared.ids.OptId.the-variants.{Nothing, At}
 use Rattle.span.specs.declared.span.FugueSpan.{FugueSpan}
-use Rattle.rope.specs.declared.place.Verdict.{Verdict}
-use Rattle.rope.specs.declared.place.Verdict.the-variants.{Stop, Hold, Clear, Keep}
-use Rattle.rope.specs.Place.{isStop, after, run}
+use Rattle.units.specs.declared.place.Verdict.{Verdict}
+use Rattle.units.specs.declared.place.Verdict.the-variants.{Stop, Hold, Clear, Keep}
+use Rattle.units.specs.Place.{isStop, after, run}
 use Rattle.fugue.specs.Tree.{ref, ol}
 use Rattle.fugue.proofs.Order.{Tri, tlt, teq, tgt, LtId, Older, older-no, LtZ-irrefl, LtZ-trans}
 use Rattle.fugue.proofs.Keys.{Key, Lt, Lt-irrefl, Lt-trans, Lt-asym, tri}

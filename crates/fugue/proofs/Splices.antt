@@ -8,7 +8,7 @@ use lib.ListN.{length, length-append}
 use Rattle.span.specs.declared.span.FugueSpan.{FugueSpan}
 use Rattle.span.specs.Span.{lenSpan}
 use Rattle.span.specs.Units.{tab, unitAt, unitsOf}
-use Rattle.rope.specs.Place.{front, behind, putAt, scanPlace, withOrigins, originLeft, originRight, insertUnits}
+use Rattle.units.specs.Place.{front, behind, putAt, scanPlace, withOrigins, originLeft, originRight, insertUnits}
 use Rattle.fugue.proofs.ScanPlace.{Mem}
 use Rattle.fugue.proofs.Cursor.{front-behind}
 use Rattle.fugue.proofs.Sorts.{Splice}

@@ -12,7 +12,7 @@ use Rattle.span.specs.declared.ids.OptId.the-variants.{Nothing}
 use Rattle.span.specs.declared.span.FugueSpan.{FugueSpan}
 use Rattle.span.specs.Ids.{sameOpt}
 use Rattle.span.proofs.Same.{sameOpt-true, sameOpt-refl}
-use Rattle.rope.specs.Place.{memId, hasOl, posOf}
+use Rattle.units.specs.Place.{memId, hasOl, posOf}
 use Rattle.fugue.specs.Tree.{ref, ol}
 use Rattle.fugue.proofs.Keys.{Key, Lt, Lt-irrefl, Lt-asym}
 use Rattle.fugue.proofs.ScanPlace.{Mem, Sorted}

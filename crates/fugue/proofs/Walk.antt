@@ -12,8 +12,8 @@ use Rattle.span.specs.declared.ids.OptId.the-variants.{Nothing, At}
 use Rattle.span.specs.declared.span.FugueSpan.{FugueSpan}
 use Rattle.span.specs.Ids.{sameOpt}
 use Rattle.span.proofs.Same.{sameOpt-true, sameOpt-refl}
-use Rattle.rope.specs.Lists.{keepIf}
-use Rattle.rope.specs.Place.{hasOl, parentRight}
+use Rattle.units.specs.Lists.{keepIf}
+use Rattle.units.specs.Place.{hasOl, parentRight}
 use Rattle.fugue.specs.Tree.{ref, ol, or, prOf, isNone, leftKid, rightKid, walkEach, walkList, walk}
 use Rattle.fugue.proofs.Order.{LtId}
 use Rattle.fugue.proofs.Keys.{Key, Step, sl, sr, IsL, IsR, LtS, Lt, Lt-trans, Lt-left, Lt-right, Lt-prefix}

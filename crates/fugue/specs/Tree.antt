@@ -12,8 +12,8 @@ use Rattle.span.specs.declared.ids.OptId.{OptId}
 use Rattle.span.specs.declared.ids.OptId.the-variants.{Nothing, At}
 use Rattle.span.specs.declared.span.FugueSpan.{FugueSpan}
 use Rattle.span.specs.Ids.{sameOpt}
-use Rattle.rope.specs.Lists.{keepIf}
-use Rattle.rope.specs.Place.{parentRight}
+use Rattle.units.specs.Lists.{keepIf}
+use Rattle.units.specs.Place.{parentRight}
 
 -- a unit as others name it: its id, its origins
 abbrev pub ref : FugueSpan → OptId

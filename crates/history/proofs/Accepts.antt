@@ -15,8 +15,8 @@ use Rattle.span.specs.declared.ids.OptId.the-variants.{At}
 use Rattle.span.specs.Ids.{UNKNOWN-PEER, roomOpt}
 use Rattle.span.specs.Status.{eqZ}
 use Rattle.span.proofs.StatusLaws.{eqZ-true}
-use Rattle.rope.specs.Limits.{PEERS, EDITS}
-use Rattle.rope.specs.Lists.{every}
+use Rattle.units.specs.Limits.{PEERS, EDITS}
+use Rattle.units.specs.Lists.{every}
 use Rattle.fugue.proofs.Keys.{Key}
 use Rattle.fugue.proofs.Tests.{Test, pass, fail, eqb-test}
 use Rattle.fugue.proofs.Clocks.{cnt, Fits}

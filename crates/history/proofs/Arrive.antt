@@ -19,8 +19,8 @@ use Rattle.span.specs.Span.{newSpan, realNew, shift}
 use Rattle.span.specs.Units.{unitsOf}
 use Rattle.span.specs.Units as Units
 use Rattle.span.proofs.ForRope.{units-length}
-use Rattle.rope.specs.Place.{parentRight, originLeft, originRight, withOrigins, insertUnits, shown}
-use Rattle.rope.specs.Change.{withState, deleteUnits}
+use Rattle.units.specs.Place.{parentRight, originLeft, originRight, withOrigins, insertUnits, shown}
+use Rattle.units.specs.Change.{withState, deleteUnits}
 use Rattle.fugue.specs.Tree.{ref}
 use Rattle.fugue.proofs.Order.{Older, LtZ}
 use Rattle.fugue.proofs.Keys.{Key}

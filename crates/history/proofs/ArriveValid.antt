@@ -23,10 +23,10 @@ use Rattle.span.proofs.Same.{sameId-refl, sameOpt-refl}
 use Rattle.span.proofs.SpanLaws.{span-ok}
 use Rattle.span.proofs.Unique.{join-expand}
 use Rattle.span.proofs.ForRope.{units-length}
-use Rattle.rope.specs.Limits.{UNITS, EDITS}
-use Rattle.rope.specs.Lists.{every, some}
-use Rattle.rope.specs.Place.{withOrigins, originLeft, originRight, insertUnits, shown}
-use Rattle.rope.specs.Change.{deleteUnits, taken}
+use Rattle.units.specs.Limits.{UNITS, EDITS}
+use Rattle.units.specs.Lists.{every, some}
+use Rattle.units.specs.Place.{withOrigins, originLeft, originRight, insertUnits, shown}
+use Rattle.units.specs.Change.{deleteUnits, taken}
 use Rattle.rope.specs.Spans.{Fresh}
 use Rattle.rope.proofs.Lists.{or-right}
 use Rattle.rope.proofs.WellFormed.{formed-of}

@@ -21,12 +21,12 @@ use Rattle.span.specs.Units.{unitsOf, expand, join}
 use Rattle.span.specs.Units as Units
 use Rattle.span.proofs.Same.{sameId-true, sameId-refl, sameOpt-true}
 use Rattle.span.proofs.Unique.{expand-join}
-use Rattle.rope.specs.Limits.{UNITS}
-use Rattle.rope.specs.Lists.{every, some}
-use Rattle.rope.specs.Place.{memId, withOrigins, shown}
-use Rattle.rope.specs.Query.{placeholder}
+use Rattle.units.specs.Limits.{UNITS}
+use Rattle.units.specs.Lists.{every, some}
+use Rattle.units.specs.Place.{memId, withOrigins, shown}
+use Rattle.units.specs.Query.{placeholder}
 use Rattle.rope.specs.Spans.{Fresh}
-use Rattle.rope.specs.Store.{wellFormed}
+use Rattle.units.specs.Store.{wellFormed}
 use Rattle.rope.proofs.Keeps.{UnitsOk, units-ok, join-formed}
 use Rattle.rope.proofs.Alikes.{alike-ok}
 use Rattle.fugue.specs.Tree.{ref}

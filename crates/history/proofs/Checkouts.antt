@@ -15,9 +15,9 @@ use Rattle.span.specs.Chunk.{lenOf}
 use Rattle.span.specs.Ids.{incId, UNKNOWN-PEER}
 use Rattle.span.specs.Status.{activated}
 use Rattle.span.specs.Units as Units
-use Rattle.rope.specs.Place.{front, behind}
-use Rattle.rope.specs.Change.{withState, deleteUnit, deleteFirst, deleteUnits}
-use Rattle.rope.specs.Query.{placeholder}
+use Rattle.units.specs.Place.{front, behind}
+use Rattle.units.specs.Change.{withState, deleteUnit, deleteFirst, deleteUnits}
+use Rattle.units.specs.Query.{placeholder}
 use Rattle.fugue.specs.Tree.{ref}
 use Rattle.fugue.proofs.Keys.{Key}
 use Rattle.fugue.proofs.ScanPlace.{Mem}

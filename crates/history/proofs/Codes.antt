@@ -13,8 +13,8 @@ use Rattle.span.specs.declared.ids.OptId.the-variants.{At}
 use Rattle.span.specs.Ids.{UNKNOWN-PEER, roomOpt}
 use Rattle.span.specs.Status.{eqZ}
 use Rattle.span.proofs.StatusLaws.{eqZ-refl}
-use Rattle.rope.specs.Limits.{PEERS}
-use Rattle.rope.specs.Lists.{every, some}
+use Rattle.units.specs.Limits.{PEERS}
+use Rattle.units.specs.Lists.{every, some}
 use Rattle.fugue.proofs.Tests.{Test, pass, fail, eqb-test}
 use Rattle.fugue.proofs.Clocks.{cnt, Fits}
 use Rattle.history.specs.Edit.{Count, Version, Act, Insert, Delete, Edit, sizeOf, size, Held}

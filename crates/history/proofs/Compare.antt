@@ -13,7 +13,7 @@ use Rattle.span.specs.declared.ids.OptId.the-variants.{Nothing, At}
 use Rattle.span.specs.declared.span.FugueSpan.{FugueSpan}
 use Rattle.span.specs.Ids.{UNKNOWN-PEER, incId}
 use Rattle.span.specs.Units as Units
-use Rattle.rope.specs.Place.{hasOl, parentRight, originLeft, originRight}
+use Rattle.units.specs.Place.{hasOl, parentRight, originLeft, originRight}
 use Rattle.fugue.specs.Tree.{ref, ol, or, prOf}
 use Rattle.fugue.proofs.Keys.{Key}
 use Rattle.fugue.proofs.Hang.{Hung, none≢at}

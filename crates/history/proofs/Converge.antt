@@ -9,9 +9,9 @@ use native.Mathlib.Omega.{arith}
 use Rattle.span.specs.declared.ids.OptId.{OptId}
 use Rattle.span.specs.declared.span.FugueSpan.{FugueSpan}
 use Rattle.span.specs.Span.{newSpan}
-use Rattle.rope.specs.Lists.{keepIf}
-use Rattle.rope.specs.Place.{insertUnits}
-use Rattle.rope.specs.Change.{withState}
+use Rattle.units.specs.Lists.{keepIf}
+use Rattle.units.specs.Place.{insertUnits}
+use Rattle.units.specs.Change.{withState}
 use Rattle.fugue.specs.Tree.{ref, walk, sortId}
 use Rattle.fugue.proofs.Keys.{Key}
 use Rattle.fugue.proofs.ScanPlace.{Mem}

@@ -13,8 +13,8 @@ use Rattle.span.specs.declared.ids.OptId.{OptId}
 use Rattle.span.specs.Ids.{UNKNOWN-PEER}
 use Rattle.span.specs.Units.{expand, join}
 use Rattle.span.proofs.Unique.{expand-join}
-use Rattle.rope.specs.Limits.{UNITS, fits}
-use Rattle.rope.specs.Codes.{placeholderCode}
+use Rattle.units.specs.Limits.{UNITS, fits}
+use Rattle.units.specs.Codes.{placeholderCode}
 use Rattle.fugue.proofs.Keys.{Key}
 use Rattle.fugue.proofs.Tests.{Test, pass, fail, eqb-test}
 use Rattle.fugue.proofs.Clocks.{cnt, doneOf, in-range}

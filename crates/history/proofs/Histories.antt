@@ -14,8 +14,8 @@ use Rattle.span.specs.declared.ids.Id.{Id}
 use Rattle.span.specs.declared.span.FugueSpan.{FugueSpan}
 use Rattle.span.specs.Status.{inI16}
 use Rattle.span.specs.Units.{expand}
-use Rattle.rope.specs.Lists.{every}
-use Rattle.rope.specs.Delta.{insertable}
+use Rattle.units.specs.Lists.{every}
+use Rattle.units.specs.Delta.{insertable}
 use Rattle.fugue.specs.Tree.{walk, sortId}
 use Rattle.history.specs.Edit.{Version, Edit, Held, History}
 use Rattle.history.specs.Version.{below}

@@ -13,9 +13,9 @@ use Rattle.span.specs.declared.ids.OptId.the-variants.{At}
 use Rattle.span.specs.declared.span.FugueSpan.{FugueSpan}
 use Rattle.span.specs.Ids.{UNKNOWN-PEER, incId, sameId, sameOpt}
 use Rattle.span.specs.Status.{activated}
-use Rattle.rope.specs.Lists.{every, some, keepIf}
-use Rattle.rope.specs.Place.{memId, front, behind}
-use Rattle.rope.specs.Change.{withState, orReal, deleteUnit, deleteFirst, deleteUnits}
+use Rattle.units.specs.Lists.{every, some, keepIf}
+use Rattle.units.specs.Place.{memId, front, behind}
+use Rattle.units.specs.Change.{withState, orReal, deleteUnit, deleteFirst, deleteUnits}
 use Rattle.rope.proofs.Alikes.{Alike}
 use Rattle.fugue.proofs.ScanPlace.{Mem}
 use Rattle.fugue.proofs.Cursor.{front-behind}

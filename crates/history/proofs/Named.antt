@@ -19,9 +19,9 @@ use Rattle.span.specs.Units.{unitsOf}
 use Rattle.span.specs.Units as Units
 use Rattle.span.proofs.Same.{sameId-true}
 use Rattle.span.proofs.UnitLaws.{unit-id}
-use Rattle.rope.specs.Lists.{some, keepIf}
-use Rattle.rope.specs.Place.{memId, behind, shown, Distinct}
-use Rattle.rope.specs.Change.{firstShown, taken}
+use Rattle.units.specs.Lists.{some, keepIf}
+use Rattle.units.specs.Place.{memId, behind, shown, Distinct}
+use Rattle.units.specs.Change.{firstShown, taken}
 use Rattle.rope.specs.Spans.{Fresh}
 use Rattle.fugue.specs.Tree.{ref}
 use Rattle.fugue.proofs.ScanPlace.{Mem}

@@ -14,8 +14,8 @@ use Rattle.span.specs.declared.ids.Id.{Id}
 use Rattle.span.specs.declared.ids.OptId.the-variants.{At}
 use Rattle.span.specs.Ids.{id, roomOpt}
 use Rattle.span.specs.Status.{eqZ}
-use Rattle.rope.specs.Limits.{PEERS}
-use Rattle.rope.specs.Lists.{every, some}
+use Rattle.units.specs.Limits.{PEERS}
+use Rattle.units.specs.Lists.{every, some}
 use Rattle.history.specs.Edit.{Count, Version, Act, Delete, Edit, sizeOf, size, Held}
 use Rattle.history.specs.Version.{heldCount, above, rising, isHeld, named, closed}
 use Rattle.history.specs.Valid.{actFormed, actIds, hasPeer, peerCount, ownCount, editCode, editsFit}

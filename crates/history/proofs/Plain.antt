@@ -14,9 +14,9 @@ use Rattle.span.specs.declared.span.OptStatus.the-variants as Opt
 use Rattle.span.specs.declared.span.FugueSpan.{FugueSpan}
 use Rattle.span.specs.Ids.{UNKNOWN-PEER}
 use Rattle.span.specs.Status.{status, activated}
-use Rattle.rope.specs.Lists.{keepIf}
-use Rattle.rope.specs.Place.{front, behind, lastId, firstPast, originLeft, originRight, shown}
-use Rattle.rope.specs.Change.{withState, firstShown, taken}
+use Rattle.units.specs.Lists.{keepIf}
+use Rattle.units.specs.Place.{front, behind, lastId, firstPast, originLeft, originRight, shown}
+use Rattle.units.specs.Change.{withState, firstShown, taken}
 use Rattle.fugue.specs.Tree.{ol, or}
 use Rattle.fugue.proofs.Past.{pastOf}
 use Rattle.fugue.proofs.Alike.{Same}

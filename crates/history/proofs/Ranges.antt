@@ -14,7 +14,7 @@ use borrow.Author.Tests.{eq-eqb, le-leb, lt-ltb, eqb-true, leb-true, ltb-true}
 use Rattle.span.specs.declared.ids.Id.{Id}
 use Rattle.span.specs.Ids.{id, incId, sameId}
 use Rattle.span.proofs.Same.{sameId-true, sameId-refl}
-use Rattle.rope.specs.Lists.{some}
+use Rattle.units.specs.Lists.{some}
 use Rattle.history.specs.Edit.{Range}
 use Rattle.history.specs.Version.{number}
 use Rattle.history.specs.Checkout.{range, inRange, inRanges, rangeOn, rangesOf}

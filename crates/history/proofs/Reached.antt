@@ -6,8 +6,8 @@ use mathlib.Core.List.{List, [], _∷_, _++_, List·Memᴰ·not-nil}
 use lib.Dec.{eqb, ltb}
 use lib.ListN.{length}
 use Rattle.span.specs.declared.ids.OptId.{OptId}
-use Rattle.rope.specs.Limits.{EDITS, fits}
-use Rattle.rope.specs.declared.diff.Entry.{Entry}
+use Rattle.units.specs.Limits.{EDITS, fits}
+use Rattle.units.specs.declared.diff.Entry.{Entry}
 use Rattle.fugue.proofs.Keys.{Key}
 use Rattle.history.specs.Edit.{Version, Edit, History}
 use Rattle.history.specs.Checkout.{unitsAt, checkout}

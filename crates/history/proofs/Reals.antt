@@ -21,10 +21,10 @@ use Rattle.span.proofs.Views.{len-pos}
 use Rattle.span.specs.Units.{unitsOf, expand, Joined, join}
 use Rattle.span.specs.Units as Units
 use Rattle.span.proofs.Unique.{join-joined, expand-join, AllUnits}
-use Rattle.rope.specs.Lists.{every, some}
-use Rattle.rope.specs.Place.{front, behind, withOrigins, originLeft, originRight, insertUnits}
-use Rattle.rope.specs.Change.{withState, orReal, deleteUnit, deleteFirst, deleteUnits, firstShown, taken}
-use Rattle.rope.specs.Delta.{isReal, realIfCreated, insertable}
+use Rattle.units.specs.Lists.{every, some}
+use Rattle.units.specs.Place.{front, behind, withOrigins, originLeft, originRight, insertUnits}
+use Rattle.units.specs.Change.{withState, orReal, deleteUnit, deleteFirst, deleteUnits, firstShown, taken}
+use Rattle.units.specs.Delta.{isReal, realIfCreated, insertable}
 use Rattle.fugue.specs.Tree.{ref}
 use Rattle.fugue.proofs.Keys.{Key, Lt, Lt-irrefl}
 use Rattle.fugue.proofs.ScanPlace.{Mem, Sorted}

@@ -10,12 +10,12 @@ use borrow.Author.Tests.{leb-true, ltb-true, ne-eqb}
 use Rattle.span.specs.declared.span.FugueSpan.{FugueSpan}
 use Rattle.span.specs.Span.{spanCode}
 use Rattle.span.specs.Units.{unitsOf, expand, join}
-use Rattle.rope.specs.Limits.{UNITS, EDITS, fits}
-use Rattle.rope.specs.Lists.{every}
-use Rattle.rope.specs.Query.{placeholder}
-use Rattle.rope.specs.Codes.{placeholderCode}
-use Rattle.rope.specs.declared.diff.Entry.{Entry}
-use Rattle.rope.specs.Delta.{insertable}
+use Rattle.units.specs.Limits.{UNITS, EDITS, fits}
+use Rattle.units.specs.Lists.{every}
+use Rattle.units.specs.Query.{placeholder}
+use Rattle.units.specs.Codes.{placeholderCode}
+use Rattle.units.specs.declared.diff.Entry.{Entry}
+use Rattle.units.specs.Delta.{insertable}
 use Rattle.fugue.proofs.ScanPlace.{Mem}
 use Rattle.history.specs.Edit.{Version, Edit, Range, Held, History}
 use Rattle.history.specs.Version.{named, closed}

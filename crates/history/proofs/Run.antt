@@ -17,8 +17,8 @@ use Rattle.span.specs.Chunk.{lenOf}
 use Rattle.span.specs.Ids.{UNKNOWN-PEER, incId}
 use Rattle.span.specs.Span.{newSpan, shift, leftOf}
 use Rattle.span.specs.Units as Units
-use Rattle.rope.specs.Place.{lastId, front, originLeft, originRight, withOrigins, shown}
-use Rattle.rope.specs.Change.{withState}
+use Rattle.units.specs.Place.{lastId, front, originLeft, originRight, withOrigins, shown}
+use Rattle.units.specs.Change.{withState}
 use Rattle.fugue.specs.Tree.{ref, ol, or}
 use Rattle.fugue.proofs.Keys.{Key}
 use Rattle.fugue.proofs.ScanPlace.{Mem}

@@ -6,7 +6,7 @@ use mathlib.Core.List.{List, [], _∷_}
 use native.Mathlib.Omega.{arith}
 use lib.Dec.{eqb}
 use borrow.Author.Tests.{eqb-true, ne-eqb}
-use Rattle.rope.specs.Codes.{kept}
+use Rattle.units.specs.Codes.{kept}
 use Rattle.history.specs.Edit.{Edit, History}
 use Rattle.history.specs.Arrive.{arrive}
 use Rattle.history.specs.Valid.{valid}

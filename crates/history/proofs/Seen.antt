@@ -10,8 +10,8 @@ use Rattle.span.specs.declared.ids.OptId.{OptId}
 use Rattle.span.specs.declared.ids.OptId.the-variants.{Nothing, At}
 use Rattle.span.specs.declared.span.FugueSpan.{FugueSpan}
 use Rattle.span.specs.Status.{activated}
-use Rattle.rope.specs.Lists.{keepIf}
-use Rattle.rope.specs.Place.{behind, firstPast, originRight}
+use Rattle.units.specs.Lists.{keepIf}
+use Rattle.units.specs.Place.{behind, firstPast, originRight}
 use Rattle.fugue.specs.Tree.{ref}
 use Rattle.fugue.proofs.Keys.{Key, sl, sr}
 use Rattle.fugue.proofs.Hang.{Hung, hungR, hungL, none≢at}

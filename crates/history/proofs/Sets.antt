@@ -15,7 +15,7 @@ use Rattle.span.specs.Chunk.{UNKNOWN, chunk}
 use Rattle.span.specs.Ids.{UNKNOWN-PEER, roomOf, roomOpt}
 use Rattle.span.proofs.IdsLaws.{Room, roomy}
 use Rattle.span.proofs.Views.{len-pos}
-use Rattle.rope.specs.Lists.{every}
+use Rattle.units.specs.Lists.{every}
 use Rattle.fugue.proofs.Tests.{Test, pass, fail, eqb-test}
 use Rattle.fugue.proofs.Clocks.{Causal, Covers, WellFormed, Order, order-of, own-le}
 use Rattle.fugue.proofs.Clocks as Clk

@@ -14,8 +14,8 @@ use Rattle.span.specs.Units.{tab, unitsOf, expand, Apart, Joined, joinOn, join}
 use Rattle.span.specs.Units as Units
 use Rattle.span.proofs.Unique.{merged-ok, apart-merged, join-joined, expand-join}
 use Rattle.span.proofs.ForRope.{joined-is}
-use Rattle.rope.specs.Place.{withOrigins}
-use Rattle.rope.specs.Change.{withState}
+use Rattle.units.specs.Place.{withOrigins}
+use Rattle.units.specs.Change.{withState}
 use Rattle.fugue.proofs.ScanPlace.{Mem}
 use Rattle.history.specs.Edit.{Version, Held, History}
 use Rattle.history.specs.Checkout.{unitsAt, unitsBetween}

@@ -14,9 +14,9 @@ use Rattle.span.specs.Ids.{roomOpt}
 use Rattle.span.specs.Status.{eqZ}
 use Rattle.span.proofs.StatusLaws.{eqZ-true}
 use Rattle.span.specs.Units.{expand}
-use Rattle.rope.specs.Limits.{PEERS, EDITS, fits}
-use Rattle.rope.specs.Lists.{every, some}
-use Rattle.rope.specs.Store.{wellFormed}
+use Rattle.units.specs.Limits.{PEERS, EDITS, fits}
+use Rattle.units.specs.Lists.{every, some}
+use Rattle.units.specs.Store.{wellFormed}
 use Rattle.history.specs.Edit.{Edit, size, Held, History}
 use Rattle.history.specs.Version.{number, heldCount, named, closed}
 use Rattle.history.specs.Valid.{actFormed, actIds, hasPeer, peerCount, ownCount, editCode, editsFit, madeUnits, sameUnits, targetsFit, targetList, valid}

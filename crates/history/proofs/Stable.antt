@@ -14,9 +14,9 @@ use Rattle.span.specs.declared.span.OptStatus.the-variants as Opt
 use Rattle.span.specs.declared.span.FugueSpan.{FugueSpan}
 use Rattle.span.specs.Ids.{UNKNOWN-PEER, incId}
 use Rattle.span.specs.Status.{status, activated}
-use Rattle.rope.specs.Lists.{keepIf}
-use Rattle.rope.specs.Place.{front, behind, originLeft, originRight, shown}
-use Rattle.rope.specs.Change.{withState, orReal, deleteUnit, deleteFirst, deleteUnits, taken}
+use Rattle.units.specs.Lists.{keepIf}
+use Rattle.units.specs.Place.{front, behind, originLeft, originRight, shown}
+use Rattle.units.specs.Change.{withState, orReal, deleteUnit, deleteFirst, deleteUnits, taken}
 use Rattle.fugue.proofs.ScanPlace.{Mem}
 use Rattle.fugue.proofs.Cursor.{front-behind}
 use Rattle.fugue.proofs.Past.{notFuture, pastOf, shown-past, originLeft-past, originRight-past, taken-past}

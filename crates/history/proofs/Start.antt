@@ -20,9 +20,9 @@ use Rattle.span.specs.Units.{unitsOf}
 use Rattle.span.specs.Units as Units
 use Rattle.span.proofs.UnitLaws.{span-of}
 use Rattle.span.proofs.ForRope.{units-length, span-units}
-use Rattle.rope.specs.Limits.{UNITS}
-use Rattle.rope.specs.Place.{parentRight, front, behind, lastId, firstPast, originLeft, originRight, withOrigins, putAt, scanPlace, run, upTo, insertUnits, shown}
-use Rattle.rope.specs.Query.{placeholder}
+use Rattle.units.specs.Limits.{UNITS}
+use Rattle.units.specs.Place.{parentRight, front, behind, lastId, firstPast, originLeft, originRight, withOrigins, putAt, scanPlace, run, upTo, insertUnits, shown}
+use Rattle.units.specs.Query.{placeholder}
 use Rattle.fugue.specs.Tree.{ref}
 use Rattle.fugue.proofs.Order.{Older}
 use Rattle.fugue.proofs.Keys.{Key}

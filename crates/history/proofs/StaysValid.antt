@@ -12,9 +12,9 @@ use Rattle.span.specs.declared.span.FugueSpan.{FugueSpan}
 use Rattle.span.specs.Status.{inI16}
 use Rattle.span.specs.Units.{expand, join}
 use Rattle.span.proofs.Unique.{expand-join}
-use Rattle.rope.specs.Limits.{EDITS}
-use Rattle.rope.specs.Lists.{every}
-use Rattle.rope.specs.declared.diff.Entry.{Entry}
+use Rattle.units.specs.Limits.{EDITS}
+use Rattle.units.specs.Lists.{every}
+use Rattle.units.specs.declared.diff.Entry.{Entry}
 use Rattle.rope.proofs.Keeps.{UnitsOk, join-formed}
 use Rattle.history.specs.Edit.{Version, Held, History}
 use Rattle.history.specs.Version.{below, named}

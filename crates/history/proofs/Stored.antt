@@ -18,9 +18,9 @@ use Rattle.span.specs.Status.{activated}
 use Rattle.span.specs.Span.{newSpan}
 use Rattle.span.specs.Units.{unitsOf, join}
 use Rattle.span.proofs.ForRope.{units-length}
-use Rattle.rope.specs.Limits.{UNITS, PEERS, EDITS, fits}
-use Rattle.rope.specs.Place.{front, behind, originLeft, originRight, withOrigins}
-use Rattle.rope.specs.Change.{deleteUnit, deleteFirst, deleteUnits}
+use Rattle.units.specs.Limits.{UNITS, PEERS, EDITS, fits}
+use Rattle.units.specs.Place.{front, behind, originLeft, originRight, withOrigins}
+use Rattle.units.specs.Change.{deleteUnit, deleteFirst, deleteUnits}
 use Rattle.fugue.proofs.Keys.{Key}
 use Rattle.fugue.proofs.Tests.{Test, pass, fail, eqb-test}
 use Rattle.fugue.proofs.Cursor.{front-behind}

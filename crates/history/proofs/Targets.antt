@@ -13,9 +13,9 @@ use Rattle.span.specs.declared.ids.OptId.{OptId}
 use Rattle.span.specs.declared.ids.OptId.the-variants.{At}
 use Rattle.span.specs.declared.span.FugueSpan.{FugueSpan}
 use Rattle.span.specs.Status.{activated}
-use Rattle.rope.specs.Lists.{some, keepIf}
-use Rattle.rope.specs.Place.{behind, shown}
-use Rattle.rope.specs.Change.{firstShown, taken}
+use Rattle.units.specs.Lists.{some, keepIf}
+use Rattle.units.specs.Place.{behind, shown}
+use Rattle.units.specs.Change.{firstShown, taken}
 use Rattle.fugue.proofs.Keys.{Key}
 use Rattle.fugue.proofs.ScanPlace.{Mem, Sorted}
 use Rattle.fugue.proofs.Past.{notFuture}

@@ -8,7 +8,7 @@ use native.Mathlib.Omega.{arith}
 use lib.Dec.{eqb}
 use lib.ListN.{length}
 use borrow.Author.Tests.{eq-eqb}
-use Rattle.rope.specs.Lists.{some, keepIf}
+use Rattle.units.specs.Lists.{some, keepIf}
 use Rattle.fugue.proofs.Tests.{Test, pass, fail, eqb-test}
 use Rattle.history.specs.Edit.{Edit}
 use Rattle.history.specs.Demand.{InSet, Once, peers, sum}

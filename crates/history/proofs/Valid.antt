@@ -21,11 +21,11 @@ use Rattle.span.specs.Units.{unitsOf, join}
 use Rattle.span.specs.Units as Units
 use Rattle.span.proofs.ForRope.{units-length}
 use Rattle.span.proofs.Unique.{expand-join}
-use Rattle.rope.specs.Limits.{UNITS, EDITS, fits}
-use Rattle.rope.specs.Lists.{every, some}
-use Rattle.rope.specs.Place.{withOrigins}
-use Rattle.rope.specs.Change.{withState}
-use Rattle.rope.specs.Query.{placeholder}
+use Rattle.units.specs.Limits.{UNITS, EDITS, fits}
+use Rattle.units.specs.Lists.{every, some}
+use Rattle.units.specs.Place.{withOrigins}
+use Rattle.units.specs.Change.{withState}
+use Rattle.units.specs.Query.{placeholder}
 use Rattle.fugue.proofs.Keys.{Key}
 use Rattle.fugue.proofs.ScanPlace.{Mem}
 use Rattle.fugue.proofs.Tests.{Test, pass, fail, eqb-test}

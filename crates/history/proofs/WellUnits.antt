@@ -28,10 +28,10 @@ use Rattle.span.specs.Units.{unitsOf, expand, Apart, Joined, joinOn, join}
 use Rattle.span.specs.Units as Units
 use Rattle.span.proofs.Unique.{AllUnits, join-joined, expand-join}
 use Rattle.span.proofs.ForRope.{span-units}
-use Rattle.rope.specs.Limits.{UNITS}
-use Rattle.rope.specs.Place.{memId, front, behind, withOrigins, insertUnits, originLeft, originRight}
-use Rattle.rope.specs.Change.{withState, orReal, deleteUnit, deleteFirst, deleteUnits}
-use Rattle.rope.specs.Store.{touching, joinedRows, distinctIds, named, originsNamed, wellFormed}
+use Rattle.units.specs.Limits.{UNITS}
+use Rattle.units.specs.Place.{memId, front, behind, withOrigins, insertUnits, originLeft, originRight}
+use Rattle.units.specs.Change.{withState, orReal, deleteUnit, deleteFirst, deleteUnits}
+use Rattle.units.specs.Store.{touching, joinedRows, distinctIds, named, originsNamed, wellFormed}
 use Rattle.fugue.specs.Tree.{ref, ol, or}
 use Rattle.fugue.proofs.Keys.{Key, Lt-irrefl, Lt}
 use Rattle.fugue.proofs.ScanPlace.{Mem, Sorted}

@@ -9,7 +9,7 @@ use lib.Dec.{eqb, ltb}
 use lib.IntN.{pos}
 use lib.Signed.{leZ}
 use borrow.Author.Tests.{lt-ltb, le-leb}
-use Rattle.rope.specs.Lists.{every}
+use Rattle.units.specs.Lists.{every}
 use Rattle.fugue.proofs.Tests.{Test, pass, fail, eqb-test, ltb-test}
 use Rattle.history.specs.Edit.{Count, Version, Edit, size}
 use Rattle.history.specs.Version.{number, countOf, above, rising}

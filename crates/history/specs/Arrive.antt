@@ -7,9 +7,9 @@ use lib.Dec.{eqb}
 use Rattle.span.specs.declared.span.FugueSpan.{FugueSpan}
 use Rattle.span.specs.Span.{newSpan}
 use Rattle.span.specs.Units.{unitsOf}
-use Rattle.rope.specs.Place.{insertUnits}
-use Rattle.rope.specs.Change.{deleteUnits, taken}
-use Rattle.rope.specs.Query.{placeholder}
+use Rattle.units.specs.Place.{insertUnits}
+use Rattle.units.specs.Change.{deleteUnits, taken}
+use Rattle.units.specs.Query.{placeholder}
 use Rattle.history.specs.Edit.{Act, Insert, Delete, Edit, Range, Held, History}
 use Rattle.history.specs.Checkout.{rangesOf, unitsAt}
 

@@ -2,7 +2,7 @@
 use Prim.Native.Nat.{ℕ}
 use mathlib.Core.Path.{_≡_}
 use mathlib.Core.List.{List}
-use Rattle.rope.specs.declared.diff.Entry.{Entry}
+use Rattle.units.specs.declared.diff.Entry.{Entry}
 use Rattle.history.specs.Edit.{Version, Edit, History}
 use Rattle.history.specs.Arrive.{start}
 use Rattle.history.specs.Codes.{stored, openCode, arriveCode, arriveOf, checkoutCode, checkoutOf, deltaCode, deltaOf}

@@ -11,8 +11,8 @@ use Rattle.span.specs.declared.span.OptStatus.the-variants.{Nothing, Is}
 use Rattle.span.specs.declared.span.FugueSpan.{FugueSpan}
 use Rattle.span.specs.Ids.{incId, sameId}
 use Rattle.span.specs.Status.{status}
-use Rattle.rope.specs.Lists.{some}
-use Rattle.rope.specs.Change.{withState}
+use Rattle.units.specs.Lists.{some}
+use Rattle.units.specs.Change.{withState}
 use Rattle.history.specs.Edit.{Version, Range, Held, History}
 use Rattle.history.specs.Version.{below, inVersion}
 

@@ -8,12 +8,12 @@ use lib.ListN.{length}
 use Rattle.span.specs.declared.span.FugueSpan.{FugueSpan}
 use Rattle.span.specs.Chunk.{lenOf}
 use Rattle.span.specs.Units.{expand, join}
-use Rattle.rope.specs.Limits.{UNITS, EDITS, fits}
-use Rattle.rope.specs.Lists.{every, over}
-use Rattle.rope.specs.Place.{shown}
-use Rattle.rope.specs.declared.diff.Entry.{Entry}
-use Rattle.rope.specs.Delta.{insertable}
-use Rattle.rope.specs.Codes.{unless, kept, placeholderCode}
+use Rattle.units.specs.Limits.{UNITS, EDITS, fits}
+use Rattle.units.specs.Lists.{every, over}
+use Rattle.units.specs.Place.{shown}
+use Rattle.units.specs.declared.diff.Entry.{Entry}
+use Rattle.units.specs.Delta.{insertable}
+use Rattle.units.specs.Codes.{unless, kept, placeholderCode}
 use Rattle.history.specs.Edit.{Version, Act, Insert, Delete, Edit, History}
 use Rattle.history.specs.Version.{named, closed}
 use Rattle.history.specs.Checkout.{unitsAt, checkout}

@@ -2,8 +2,8 @@
 use mathlib.Core.List.{List}
 use Rattle.span.specs.declared.span.FugueSpan.{FugueSpan}
 use Rattle.span.specs.Units.{join}
-use Rattle.rope.specs.declared.diff.Entry.{Entry}
-use Rattle.rope.specs.Delta.{entries}
+use Rattle.units.specs.declared.diff.Entry.{Entry}
+use Rattle.units.specs.Delta.{entries}
 use Rattle.history.specs.Edit.{Version, History}
 use Rattle.history.specs.Checkout.{unitsBetween}
 

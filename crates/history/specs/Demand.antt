@@ -12,9 +12,9 @@ use Rattle.span.specs.declared.ids.OptId.the-variants.{Nothing, At}
 use Rattle.span.specs.declared.span.FugueSpan.{FugueSpan}
 use Rattle.span.specs.Ids.{UNKNOWN-PEER, roomOpt}
 use Rattle.span.specs.Units.{expand}
-use Rattle.rope.specs.Limits.{UNITS, PEERS, EDITS}
-use Rattle.rope.specs.Lists.{every, some}
-use Rattle.rope.specs.Change.{withState}
+use Rattle.units.specs.Limits.{UNITS, PEERS, EDITS}
+use Rattle.units.specs.Lists.{every, some}
+use Rattle.units.specs.Change.{withState}
 use Rattle.fugue.specs.Tree.{walk, sortId}
 use Rattle.history.specs.Edit.{Count, Version, Edit, size, History}
 use Rattle.history.specs.Version.{number, countOf, below, rising, closedFor}

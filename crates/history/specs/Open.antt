@@ -1,5 +1,5 @@
 -- For claims that compute: `unfolding historyOpen` opens every definition that the history's calls are made of. Assumes nothing.
-use Rattle.rope.specs.Open.{ropeOpen}
+use Rattle.units.specs.Open.{ropeOpen}
 use Rattle.fugue.specs.Tree.{prOf, isNone, leftKid, rightKid, walkEach, walkList, walk, idBefore, byId, sortId}
 use Rattle.history.specs.Edit.{sizeOf}
 use Rattle.history.specs.Version.{countOf, below, inVersion, heldCount, above, rising, isHeld, named, within, closedFor, closed, versionCode}

@@ -8,9 +8,9 @@ use Rattle.span.specs.declared.ids.Id.{Id}
 use Rattle.span.specs.Chunk.{chunk}
 use Rattle.span.specs.Ids.{id, UNKNOWN-PEER}
 use Rattle.span.specs.Units.{tab}
-use Rattle.rope.specs.declared.diff.Entry.the-variants.{Retain}
-use Rattle.rope.specs.declared.diff.Entry.the-variants as D
-use Rattle.rope.specs.declared.diff.OptLamport.the-variants as L
+use Rattle.units.specs.declared.diff.Entry.the-variants.{Retain}
+use Rattle.units.specs.declared.diff.Entry.the-variants as D
+use Rattle.units.specs.declared.diff.OptLamport.the-variants as L
 use Rattle.history.specs.Edit.{Version, Insert, Delete, Edit, History}
 use Rattle.apply.specs.declared.item.Item.{Item}
 use Rattle.apply.specs.declared.given.Given.the-variants.{Known, Strange}

@@ -12,10 +12,10 @@ use Rattle.span.specs.declared.ids.OptId.the-variants.{Nothing, At}
 use Rattle.span.specs.declared.span.FugueSpan.{FugueSpan}
 use Rattle.span.specs.Chunk.{chunk, lenOf}
 use Rattle.span.specs.Units.{tab, expand}
-use Rattle.rope.specs.declared.diff.Entry.{Entry}
-use Rattle.rope.specs.declared.diff.Entry.the-variants.{Retain}
-use Rattle.rope.specs.declared.diff.Entry.the-variants as D
-use Rattle.rope.specs.declared.diff.OptLamport.the-variants as L
+use Rattle.units.specs.declared.diff.Entry.{Entry}
+use Rattle.units.specs.declared.diff.Entry.the-variants.{Retain}
+use Rattle.units.specs.declared.diff.Entry.the-variants as D
+use Rattle.units.specs.declared.diff.OptLamport.the-variants as L
 use Rattle.history.specs.Edit.{Version, Edit, History}
 use Rattle.history.specs.Tree.{treeOf}
 use Rattle.history.specs.Codes.{arriveCode, deltaOf}

@@ -4,8 +4,8 @@ use mathlib.Core.Bool.{cond}
 use mathlib.Core.List.{List, [], _∷_}
 use lib.Dec.{ltb, eqb}
 use lib.ListN.{length}
-use Rattle.rope.specs.Limits.{EDITS}
-use Rattle.rope.specs.Codes.{unless}
+use Rattle.units.specs.Limits.{EDITS}
+use Rattle.units.specs.Codes.{unless}
 use Rattle.history.specs.Edit.{Edit, History}
 use Rattle.history.specs.Checkout.{unitsAt}
 use Rattle.history.specs.Arrive.{arrive}

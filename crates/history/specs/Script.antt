@@ -8,7 +8,7 @@ use Rattle.span.specs.declared.span.FugueSpan.{FugueSpan}
 use Rattle.span.specs.Chunk.{chunk}
 use Rattle.span.specs.Ids.{id}
 use Rattle.span.specs.Units.{expand}
-use Rattle.rope.specs.Query.{visibles}
+use Rattle.units.specs.Query.{visibles}
 use Rattle.history.specs.Edit.{Count, Version, Insert, Delete, Edit, History}
 use Rattle.history.specs.Arrive.{start}
 use Rattle.history.specs.Codes.{stored, arriveOf}

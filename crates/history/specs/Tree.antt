@@ -7,8 +7,8 @@ use lib.Dec.{ltb}
 use Rattle.span.specs.declared.span.FugueSpan.{FugueSpan}
 use Rattle.span.specs.Span.{newSpan}
 use Rattle.span.specs.Units.{unitsOf}
-use Rattle.rope.specs.Place.{originLeft, originRight, withOrigins}
-use Rattle.rope.specs.Change.{deleteUnits}
+use Rattle.units.specs.Place.{originLeft, originRight, withOrigins}
+use Rattle.units.specs.Change.{deleteUnits}
 use Rattle.fugue.specs.Tree.{walk, sortId}
 use Rattle.history.specs.Edit.{Act, Insert, Delete, Edit, History}
 use Rattle.history.specs.Version.{countOf}

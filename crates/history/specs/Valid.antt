@@ -12,10 +12,10 @@ use Rattle.span.specs.Status.{eqZ}
 use Rattle.span.specs.Ids.{UNKNOWN-PEER, roomOpt, sameId, sameOpt}
 use Rattle.span.specs.Span.{newSpan}
 use Rattle.span.specs.Units.{expand, unitsOf}
-use Rattle.rope.specs.Limits.{PEERS, EDITS, fits}
-use Rattle.rope.specs.Lists.{every, some, keepIf}
-use Rattle.rope.specs.Store.{wellFormed}
-use Rattle.rope.specs.Codes.{unless}
+use Rattle.units.specs.Limits.{PEERS, EDITS, fits}
+use Rattle.units.specs.Lists.{every, some, keepIf}
+use Rattle.units.specs.Store.{wellFormed}
+use Rattle.units.specs.Codes.{unless}
 use Rattle.history.specs.Edit.{Act, Insert, Delete, Edit, size, Range, Held, History}
 use Rattle.history.specs.Version.{countOf, heldCount, named, closed}
 use Rattle.history.specs.Checkout.{inRanges, rangesOf}

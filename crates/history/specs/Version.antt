@@ -7,8 +7,8 @@ use lib.IntN.{ℤ, pos, negsuc, _+ℤ_}
 use lib.Signed.{leZ, ltZ}
 use Rattle.span.specs.declared.ids.Id.{Id}
 use Rattle.span.specs.Ids.{UNKNOWN-PEER}
-use Rattle.rope.specs.Lists.{every}
-use Rattle.rope.specs.Codes.{unless}
+use Rattle.units.specs.Lists.{every}
+use Rattle.units.specs.Codes.{unless}
 use Rattle.history.specs.Edit.{Count, Version, Act, Insert, Delete, Edit, Held, size}
 
 -- a count as a number; below zero it is none (and its version is refused, 6)

@@ -6,13 +6,13 @@ use mathlib.Core.List.{List, [], _∷_}
 use native.Mathlib.Omega.{arith}
 use lib.ListN.{length, drop, getD, List·getD-append}
 use borrow.Author.Tests.{eq-eqb}
-use Rattle.rope.specs.declared.diff.Entry.{Entry}
+use Rattle.units.specs.declared.diff.Entry.{Entry}
 use Rattle.rope.specs.declared.diff.EntryNumbers.{EntryNumbers}
 use Rattle.rope.specs.declared.diff.DiffAnswer.{DiffAnswer}
-use Rattle.rope.specs.Lists.{over}
-use Rattle.rope.specs.Store.{spansOf}
-use Rattle.rope.specs.Delta.{entries}
-use Rattle.rope.specs.Codes.{kept}
+use Rattle.units.specs.Lists.{over}
+use Rattle.units.specs.Store.{spansOf}
+use Rattle.units.specs.Delta.{entries}
+use Rattle.units.specs.Codes.{kept}
 use Rattle.rope.specs.Columns.{column, columnOf, least, Diffed, getDiffCode}
 use Rattle.records.specs.Records.{records, answerOf, recordsAfter}
 use Rattle.records.proofs.Stands.{length-records}

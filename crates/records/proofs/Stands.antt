@@ -11,12 +11,12 @@ use Rattle.store.proofs.Laws.{length-rows}
 use Rattle.span.specs.Units.{expand}
 use Rattle.store.specs.Row.{rows}
 use Rattle.rope.specs.declared.diff.EntryNumbers.{EntryNumbers}
-use Rattle.rope.specs.declared.diff.Entry.{Entry}
+use Rattle.units.specs.declared.diff.Entry.{Entry}
 use Rattle.rope.specs.declared.diff.Step.{Step}
 use Rattle.rope.specs.declared.diff.Step.the-variants.{End, Next}
-use Rattle.rope.specs.Lists.{over}
-use Rattle.rope.specs.Store.{count, spansOf}
-use Rattle.rope.specs.Delta.{entriesFrom, entries}
+use Rattle.units.specs.Lists.{over}
+use Rattle.units.specs.Store.{count, spansOf}
+use Rattle.units.specs.Delta.{entriesFrom, entries}
 use Rattle.rope.specs.Columns.{Ahead, NextOf, entryNumbers, getDiffCode}
 use Rattle.rope.proofs.States.{state-of, part-spans}
 use Rattle.rope.proofs.Diffs.{going-start}

@@ -12,9 +12,9 @@ use Rattle.span.proofs.AnswerLaws.{is-done, is-refused}
 use Rattle.store.specs.Row.{rows}
 use Rattle.rope.specs.declared.diff.Step.{Step}
 use Rattle.rope.specs.declared.diff.DiffAnswer.the-variants as Diff
-use Rattle.rope.specs.Lists.{every}
-use Rattle.rope.specs.Store.{count, spansOf, isState}
-use Rattle.rope.specs.Delta.{insertable, entries}
+use Rattle.units.specs.Lists.{every}
+use Rattle.units.specs.Store.{count, spansOf, isState}
+use Rattle.units.specs.Delta.{insertable, entries}
 use Rattle.rope.specs.Columns.{NextOf, diffRowsCode, getDiffCode}
 use Rattle.rope.proofs.States.{part-spans}
 use Rattle.records.specs.declared.Spot.{Spot}

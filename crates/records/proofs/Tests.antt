@@ -5,11 +5,11 @@ use lib.IntN.{pos}
 use Rattle.span.specs.declared.ids.Id.{Id}
 use Rattle.span.specs.declared.chunk.RichtextChunk.{RichtextChunk}
 use Rattle.span.specs.Answer.{answer}
-use Rattle.rope.specs.declared.diff.OptLamport.the-variants.{Nothing, At}
-use Rattle.rope.specs.declared.diff.Entry.the-variants.{Retain, Delete, Insert}
+use Rattle.units.specs.declared.diff.OptLamport.the-variants.{Nothing, At}
+use Rattle.units.specs.declared.diff.Entry.the-variants.{Retain, Delete, Insert}
 use Rattle.rope.specs.declared.diff.EntryNumbers.{EntryNumbers}
 use Rattle.rope.specs.declared.diff.DiffAnswer.the-variants.{Refused}
-use Rattle.rope.specs.Store.{isState}
+use Rattle.units.specs.Store.{isState}
 use Rattle.rope.specs.Columns.{numbers, entryNumbers, getDiffCode}
 use Rattle.records.specs.Records.{records, answerOf, recordsAfter}
 

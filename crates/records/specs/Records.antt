@@ -6,16 +6,16 @@ use mathlib.Core.List.{List, map}
 use lib.ListN.{length, take, drop}
 use Rattle.span.specs.declared.span.FugueSpan.{FugueSpan}
 use Rattle.span.specs.Answer.{answer}
-use Rattle.rope.specs.declared.diff.Entry.{Entry}
+use Rattle.units.specs.declared.diff.Entry.{Entry}
 use Rattle.rope.specs.declared.diff.Step.{Step}
 use Rattle.rope.specs.declared.diff.Step.the-variants.{End, Next}
 use Rattle.rope.specs.declared.diff.EntryNumbers.{EntryNumbers}
 use Rattle.rope.specs.declared.diff.DiffAnswer.{DiffAnswer}
 use Rattle.rope.specs.declared.diff.DiffAnswer.the-variants as Diff
-use Rattle.rope.specs.Lists.{over}
-use Rattle.rope.specs.Store.{count, spansOf, isState}
-use Rattle.rope.specs.Delta.{entriesFrom, entries}
-use Rattle.rope.specs.Codes.{kept}
+use Rattle.units.specs.Lists.{over}
+use Rattle.units.specs.Store.{count, spansOf, isState}
+use Rattle.units.specs.Delta.{entriesFrom, entries}
+use Rattle.units.specs.Codes.{kept}
 use Rattle.rope.specs.Columns.{Ahead, NextOf, numbers, entryNumbers, getDiffCode}
 use Rattle.records.specs.declared.Spot.{Spot}
 

@@ -6,7 +6,7 @@
 ghost use mathlib.Core.Path.{_≡_};
 ghost use lib.ListN.{length};
 ghost use Rattle.store.specs.Row.{rows};
-ghost use Rattle.rope.specs.Store.{spansOf};
+ghost use Rattle.units.specs.Store.{spansOf};
 ghost use Rattle.rope.specs.Spans.{Stored};
 ghost use Rattle.rope.specs.Columns.{diffRowsCode, getDiffCode};
 ghost use Rattle.records.specs.Records.{spotOf, startBy, stepTo, On, Stepped, answerOf, recordsAfter};

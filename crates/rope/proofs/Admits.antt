@@ -17,10 +17,10 @@ use Rattle.span.specs.Span.{lenSpan, spanCode, idsOk}
 use Rattle.span.specs.Units.{expand, join}
 use Rattle.store.specs.Row.{rows}
 use Rattle.store.proofs.Laws.{length-rows}
-use Rattle.rope.specs.Limits.{UNITS, fits}
-use Rattle.rope.specs.Place.{memId, shown, insertUnits}
-use Rattle.rope.specs.Store.{wellFormed}
-use Rattle.rope.specs.Codes.{unless, holdsSome, insertIds, insertCode}
+use Rattle.units.specs.Limits.{UNITS, fits}
+use Rattle.units.specs.Place.{memId, shown, insertUnits}
+use Rattle.units.specs.Store.{wellFormed}
+use Rattle.units.specs.Codes.{unless, holdsSome, insertIds, insertCode}
 use Rattle.rope.specs.Spans.{AllOk, Fresh, Good, Ready, holdsAny}
 use Rattle.rope.specs.Edits.{insertFirst, Asked}
 use Rattle.rope.proofs.Lists.{or-left, or-right, or-false, or-both}

@@ -15,9 +15,9 @@ use Rattle.span.specs.Units.{unitsOf, expand, Apart, Joined, joinOn, join}
 use Rattle.span.proofs.UnitLaws.{merge-units}
 use Rattle.span.proofs.Unique.{AllUnits, merged-ok, apart-merged, join-joined, expand-join}
 use Rattle.span.proofs.ForRope.{span-units, joined-is}
-use Rattle.rope.specs.Place.{memId, Distinct}
-use Rattle.rope.specs.Store.{count, spansOf, named, originsNamed, wellFormed, isState, stateCode}
-use Rattle.rope.specs.Change.{withState, clearUnits}
+use Rattle.units.specs.Place.{memId, Distinct}
+use Rattle.units.specs.Store.{count, spansOf, named, originsNamed, wellFormed, isState, stateCode}
+use Rattle.units.specs.Change.{withState, clearUnits}
 use Rattle.rope.specs.Spans.{AllOk, clearSpan}
 use Rattle.rope.specs.Edits.{Edited}
 use Rattle.rope.proofs.Lists.{and-true}

@@ -20,7 +20,7 @@ use Rattle.span.specs.Units.{unitsOf, expand}
 use Rattle.store.specs.Row.{rows, rowAt}
 use Rattle.rope.specs.declared.find.Offset.{Offset}
 use Rattle.rope.specs.declared.find.Offset.the-variants as Off
-use Rattle.rope.specs.Place.{memId}
+use Rattle.units.specs.Place.{memId}
 use Rattle.rope.specs.Spans.{offsetOf, isAt, covered, AllOk, Fresh, meetsSpan, holdsAny}
 use Rattle.rope.proofs.Offsets.{off-unit, unit-off, covers-units}
 use Rattle.rope.proofs.Lists.{le-or, or-left, or-right, or-both, mem-append}

@@ -14,8 +14,8 @@ use Rattle.span.specs.Span.{lenSpan}
 use Rattle.span.specs.Units.{unitsOf, expand}
 use Rattle.span.proofs.ForRope.{units-length}
 use Rattle.store.specs.Row.{rows, rowAt}
-use Rattle.rope.specs.Place.{memId}
-use Rattle.rope.specs.Store.{named, originsNamed}
+use Rattle.units.specs.Place.{memId}
+use Rattle.units.specs.Store.{named, originsNamed}
 use Rattle.rope.proofs.Rights.{row-drop, row-none}
 
 pub length-span : (s : FugueSpan) (l : List FugueSpan) → length (expand (s ∷ l)) ≡ lenSpan s + length (expand l)

@@ -22,9 +22,9 @@ use Rattle.rope.specs.declared.change.Delete.{Delete}
 use Rattle.rope.specs.declared.change.Update.{Update}
 use Rattle.rope.specs.declared.change.Change.{Change}
 use Rattle.rope.specs.declared.change.Change.the-variants as Ch
-use Rattle.rope.specs.declared.change.SetFuture.{SetFuture}
+use Rattle.units.specs.declared.change.SetFuture.{SetFuture}
 use Rattle.rope.specs.declared.change.Part.{Part}
-use Rattle.rope.specs.Change.{withState, setFuture, changeStatus, baseOf, updateUnit}
+use Rattle.units.specs.Change.{withState, setFuture, changeStatus, baseOf, updateUnit}
 use Rattle.rope.specs.Pieces.{part, deleteCut, tookOf, deleteAfter, CanDelete, partAt, partFrom, updateCut, cutOf, afterOf, CanCut}
 use Rattle.rope.proofs.Seeks.{active-most}
 

@@ -26,9 +26,9 @@ use Rattle.rope.specs.declared.change.Delete.{Delete}
 use Rattle.rope.specs.declared.change.Change.{Change}
 use Rattle.rope.specs.declared.change.Change.the-variants as Ch
 use Rattle.rope.specs.declared.change.Part.{Part}
-use Rattle.rope.specs.Place.{front, behind}
+use Rattle.units.specs.Place.{front, behind}
 use Rattle.rope.specs.Spans.{AllOk}
-use Rattle.rope.specs.Change.{withState, orReal, deleteUnit, deleteFirst, deleteUnits}
+use Rattle.units.specs.Change.{withState, orReal, deleteUnit, deleteFirst, deleteUnits}
 use Rattle.rope.specs.Pieces.{part, deleteCut, tookOf, deleteAfter, CanDelete, CanCut, CanChange, cutOf, afterOf, changeSpan, partOf, changedOf, piecesOf, allPieces}
 use Rattle.rope.specs.Applies.{Fit, AllFit, Applies, Deletes}
 use Rattle.rope.proofs.Offsets.{unit-status}

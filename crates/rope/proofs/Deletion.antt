@@ -23,11 +23,11 @@ use Rattle.rope.specs.declared.change.Delete.{Delete}
 use Rattle.rope.specs.declared.change.Change.the-variants as Ch
 use Rattle.rope.specs.declared.delete.DeleteAnswer.{DeleteAnswer}
 use Rattle.rope.specs.declared.delete.DeleteAnswer.the-variants.{Done, Refused}
-use Rattle.rope.specs.Limits.{fits}
-use Rattle.rope.specs.Place.{front, behind, shown}
-use Rattle.rope.specs.Store.{count, room, spansOf, wellFormed, isState}
-use Rattle.rope.specs.Change.{deleteUnits, pieces}
-use Rattle.rope.specs.Codes.{unless, deleteCode}
+use Rattle.units.specs.Limits.{fits}
+use Rattle.units.specs.Place.{front, behind, shown}
+use Rattle.units.specs.Store.{count, room, spansOf, wellFormed, isState}
+use Rattle.units.specs.Change.{deleteUnits, pieces}
+use Rattle.units.specs.Codes.{unless, deleteCode}
 use Rattle.rope.specs.Spans.{AllOk, Stored}
 use Rattle.rope.specs.Pieces.{allPieces}
 use Rattle.rope.specs.Applies.{Counts, Deletes}

@@ -21,8 +21,11 @@ use Rattle.rope.specs.declared.diff.Change.{Change}
 use Rattle.rope.specs.declared.diff.Change.the-variants.{Same, Is}
 use Rattle.rope.specs.declared.diff.Step.{Step}
 use Rattle.rope.specs.declared.diff.Step.the-variants.{End, Next}
-use Rattle.rope.specs.Lists.{every}
-use Rattle.rope.specs.Delta.{Nothing, At, Entry, Retain, Delete, lamportOf, insertOfSpan, realIfCreated, insertable, retain, entryBy, entriesFrom, entries}
+use Rattle.units.specs.Lists.{every}
+use Rattle.units.specs.declared.diff.OptLamport.the-variants.{Nothing, At}
+use Rattle.units.specs.declared.diff.Entry.{Entry}
+use Rattle.units.specs.declared.diff.Entry.the-variants.{Retain, Delete}
+use Rattle.units.specs.Delta.{lamportOf, insertOfSpan, realIfCreated, insertable, retain, entryBy, entriesFrom, entries}
 use Rattle.rope.specs.Spans.{Stored}
 use Rattle.rope.specs.Columns.{changeBy, changeOf, stepBy, Ahead, NextIs, NextOf}
 use Rattle.rope.proofs.Rights.{row-drop, row-none}

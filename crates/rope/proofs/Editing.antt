@@ -16,8 +16,8 @@ use Rattle.store.specs.Row.{rows, rowAt, spanOf}
 use Rattle.store.proofs.Laws.{words-moved, length-rows, rows-at}
 use Rattle.rope.specs.declared.insert.Plan.{Plan}
 use Rattle.rope.specs.declared.insert.Plan.the-variants.{Join, Own, Cut}
-use Rattle.rope.specs.Store.{count, spansOf}
-use Rattle.rope.specs.Codes.{kept}
+use Rattle.units.specs.Store.{count, spansOf}
+use Rattle.units.specs.Codes.{kept}
 use Rattle.rope.specs.Plans.{Can}
 use Rattle.rope.specs.Edits.{headRest, pastRows, Written, WrittenIn, Edited, EditedIn}
 

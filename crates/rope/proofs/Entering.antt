@@ -17,10 +17,10 @@ use Rattle.span.specs.Span.{spanCode}
 use Rattle.span.specs.Units.{expand, join}
 use Rattle.store.specs.Row.{rows}
 use Rattle.rope.specs.declared.insert.Plan.{Plan}
-use Rattle.rope.specs.Place.{insertUnits}
-use Rattle.rope.specs.Change.{clearUnits}
-use Rattle.rope.specs.Store.{count, room, spansOf, wellFormed, isState, stateCode}
-use Rattle.rope.specs.Codes.{unless, kept, insertCode, insertOf, askCode, clearOf}
+use Rattle.units.specs.Place.{insertUnits}
+use Rattle.units.specs.Change.{clearUnits}
+use Rattle.units.specs.Store.{count, room, spansOf, wellFormed, isState, stateCode}
+use Rattle.units.specs.Codes.{unless, kept, insertCode, insertOf, askCode, clearOf}
 use Rattle.rope.specs.Spans.{AllOk, Stored, Ready}
 use Rattle.rope.specs.Plans.{planned, planRows, Can, Planned}
 use Rattle.rope.specs.Edits.{WrittenIn, EditedIn, insertNumber, insertList, insertFirst, Asked, Writable}

@@ -26,14 +26,14 @@ use Rattle.span.proofs.UnitLaws.{shift-zero, shift-merged, merged-content, join
 use Rattle.span.proofs.JoinLaws.{merged-left}
 use Rattle.span.proofs.Views.{part-whole}
 use Rattle.span.proofs.Unique.{merged-ok}
-use Rattle.rope.specs.declared.change.SetFuture.{SetFuture}
+use Rattle.units.specs.declared.change.SetFuture.{SetFuture}
 use Rattle.rope.specs.declared.change.Part.{Part}
 use Rattle.rope.specs.declared.change.Update.{Update}
 use Rattle.rope.specs.declared.change.Change.the-variants as Ch
 use Rattle.rope.specs.declared.exact.Exact.{Exact}
 use Rattle.rope.specs.declared.exact.Tail.{Tail}
 use Rattle.rope.specs.Spans.{AllOk}
-use Rattle.rope.specs.Change.{withState, diffOr, baseOf, setFuture, changeStatus, updateUnit, updateUnits}
+use Rattle.units.specs.Change.{withState, diffOr, baseOf, setFuture, changeStatus, updateUnit, updateUnits}
 use Rattle.rope.specs.Pieces.{updateCut, cutOf, afterOf, changeSpan, CanCut, partOf, changedOf, piecesOf, allPieces}
 use Rattle.rope.specs.Exact.{uncounted, uncountedDiff, bare, exactOf, joinsExact, follows, stepOf, tailOf}
 use Rattle.rope.proofs.Edges.{left-of-merged, part-to-whole}

@@ -16,11 +16,12 @@ use Rattle.store.specs.Row.{rows}
 use Rattle.rope.specs.declared.diff.EntryNumbers.{EntryNumbers}
 use Rattle.rope.specs.declared.diff.DiffAnswer.{DiffAnswer}
 use Rattle.rope.specs.declared.diff.DiffAnswer.the-variants as Diff
-use Rattle.rope.specs.Lists.{every, over}
-use Rattle.rope.specs.Store.{count, spansOf, isState}
+use Rattle.units.specs.Lists.{every, over}
+use Rattle.units.specs.Store.{count, spansOf, isState}
 use Rattle.span.specs.declared.span.FugueSpan.{FugueSpan}
-use Rattle.rope.specs.Delta.{Entry, insertable, entriesFrom, entries}
-use Rattle.rope.specs.Codes.{kept}
+use Rattle.units.specs.declared.diff.Entry.{Entry}
+use Rattle.units.specs.Delta.{insertable, entriesFrom, entries}
+use Rattle.units.specs.Codes.{kept}
 use Rattle.rope.specs.Columns.{entryNumbers, column, least, Hold, Set, Filled, diffRowsCode, getDiffCode, Diffed}
 use Rattle.rope.proofs.States.{part, part-spans}
 

@@ -13,7 +13,7 @@ use Rattle.rope.specs.declared.find.Offset.{Offset}
 use Rattle.rope.specs.declared.find.Offset.the-variants as Off
 use Rattle.rope.specs.declared.find.Found.{Found}
 use Rattle.rope.specs.declared.find.Found.the-variants as Fd
-use Rattle.rope.specs.Place.{memId}
+use Rattle.units.specs.Place.{memId}
 use Rattle.rope.specs.Spans.{offsetOf, isAt, covered, findBy, findIn, AllOk}
 use Rattle.rope.proofs.Offsets.{covers-units}
 use Rattle.rope.proofs.Lists.{mem-append}

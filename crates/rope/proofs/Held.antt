@@ -15,9 +15,9 @@ use Rattle.span.specs.Span.{lenSpan, spanCode}
 use Rattle.span.specs.Units.{tab, unitAt, unitsOf, expand}
 use Rattle.store.specs.Row.{rows, rowAt}
 use Rattle.rope.specs.declared.change.Update.{Update}
-use Rattle.rope.specs.Lists.{keepIf}
-use Rattle.rope.specs.Change.{inRange}
-use Rattle.rope.specs.Codes.{holdsAll}
+use Rattle.units.specs.Lists.{keepIf}
+use Rattle.units.specs.Change.{inRange}
+use Rattle.units.specs.Codes.{holdsAll}
 use Rattle.rope.specs.Pieces.{updateCut}
 use Rattle.rope.proofs.Rights.{row-drop, row-none}
 use Rattle.rope.proofs.Updating.{run-of, three}

@@ -21,9 +21,9 @@ use Rattle.span.specs.Units.{tab, unitAt, unitsOf, expand, Joined, joinOn, join
 use Rattle.span.proofs.Unique.{AllUnits, join-joined, expand-join}
 use Rattle.span.proofs.ForRope.{units-length, span-units, list-units}
 use Rattle.store.proofs.Laws.{length-rows}
-use Rattle.rope.specs.Place.{memId, Distinct, front, behind, lastId, firstPast, putAt, scanPlace, withOrigins, originLeft, originRight, insertUnits}
-use Rattle.rope.specs.Store.{count, room, spansOf, named, originsNamed, wellFormed, isState}
-use Rattle.rope.specs.Codes.{insertCode}
+use Rattle.units.specs.Place.{memId, Distinct, front, behind, lastId, firstPast, putAt, scanPlace, withOrigins, originLeft, originRight, insertUnits}
+use Rattle.units.specs.Store.{count, room, spansOf, named, originsNamed, wellFormed, isState}
+use Rattle.units.specs.Codes.{insertCode}
 use Rattle.rope.specs.Spans.{AllOk, Fresh}
 use Rattle.rope.specs.Edits.{insertNumber, insertList, Edited}
 use Rattle.rope.proofs.Lists.{or-left, or-right, or-false, and-true, mem-append}

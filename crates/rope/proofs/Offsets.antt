@@ -22,7 +22,7 @@ use Rattle.span.proofs.SpanLaws.{SpanOk, span-ok}
 use Rattle.span.specs.Units.{tab, unitAt, unitsOf}
 use Rattle.rope.specs.declared.find.Offset.{Offset}
 use Rattle.rope.specs.declared.find.Offset.the-variants as Off
-use Rattle.rope.specs.Place.{memId, hasOl, posOf}
+use Rattle.units.specs.Place.{memId, hasOl, posOf}
 use Rattle.rope.specs.Spans.{gap, offsetOf, isAt, covered}
 
 -- ---- by the code's tests

@@ -18,8 +18,8 @@ use Rattle.span.proofs.Views.{len-unknown, formed-unknown}
 use Rattle.store.specs.Row.{rows, wordsOf, wordBytes, rowBytes, flagsOf, Fitting, Signed}
 use Rattle.store.proofs.Laws.{rows-put}
 use Rattle.store.specs.Header.{headerBytes}
-use Rattle.rope.specs.Store.{count, room, spansOf, touching, joinedRows, named, distinctIds, originsNamed, wellFormed, isState}
-use Rattle.rope.specs.Query.{placeholder}
+use Rattle.units.specs.Store.{count, room, spansOf, touching, joinedRows, named, distinctIds, originsNamed, wellFormed, isState}
+use Rattle.units.specs.Query.{placeholder}
 use Rattle.rope.specs.Spans.{holdsAny, apartRows}
 use Rattle.rope.proofs.Counts.{length-span}
 use Rattle.rope.proofs.WellFormed.{form-3}

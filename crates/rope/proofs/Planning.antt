@@ -17,7 +17,7 @@ use Rattle.store.proofs.Laws.{length-rows}
 use Rattle.rope.specs.declared.insert.Plan.{Plan}
 use Rattle.rope.specs.declared.insert.Plan.the-variants.{Join, Own, Cut}
 use Rattle.rope.specs.declared.seek.Cursor.{Cursor}
-use Rattle.rope.specs.Place.{firstPast, withOrigins, insertUnits}
+use Rattle.units.specs.Place.{firstPast, withOrigins, insertUnits}
 use Rattle.rope.specs.Spans.{placeS, bordered, Border, borderUnits, AtBorder, Ready, seekIn}
 use Rattle.rope.specs.Plans.{cutFirst, cutRows, planned, planRows, Cuts, Can, Planned}
 use Rattle.rope.proofs.Rights.{row-drop}

@@ -24,13 +24,13 @@ use Rattle.span.proofs.Unique.{AllUnits, in-range, join-joined, expand-join}
 use Rattle.span.proofs.ForRope.{span-units, list-units, expand-append, joined-is}
 use Rattle.store.specs.Row.{rows, rowAt, PutRow}
 use Rattle.store.proofs.Laws.{length-rows}
-use Rattle.rope.specs.declared.change.SetFuture.{SetFuture}
+use Rattle.units.specs.declared.change.SetFuture.{SetFuture}
 use Rattle.rope.specs.declared.change.Delete.{Delete}
 use Rattle.rope.specs.declared.change.Change.{Change}
 use Rattle.rope.specs.declared.change.Change.the-variants as Ch
 use Rattle.rope.specs.declared.change.Part.{Part}
 use Rattle.rope.specs.Spans.{AllOk}
-use Rattle.rope.specs.Change.{withState, orReal, deleteUnit, updateUnit}
+use Rattle.units.specs.Change.{withState, orReal, deleteUnit, updateUnit}
 use Rattle.rope.specs.Pieces.{deleteCut, tookOf, cutOf, changeSpan, CanCut, partOf, changedOf, piecesOf}
 use Rattle.rope.specs.Streams.{Pushed}
 use Rattle.rope.specs.Applies.{Fit, Waiting, Grown, Moved}

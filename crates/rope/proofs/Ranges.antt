@@ -24,10 +24,11 @@ use Rattle.span.proofs.SpanLaws.{span-ok}
 use Rattle.span.proofs.StatusLaws.{eqZ-true}
 use Rattle.span.proofs.Same.{sameOpt-true, sameOpt-refl}
 use Rattle.span.proofs.Unique.{AllUnits}
-use Rattle.rope.specs.Lists.{keepIf}
-use Rattle.rope.specs.Place.{memId, Distinct}
-use Rattle.rope.specs.Change.{SetFuture, inRange, updateUnit, updateUnits}
-use Rattle.rope.specs.Codes.{holdsAll}
+use Rattle.units.specs.Lists.{keepIf}
+use Rattle.units.specs.Place.{memId, Distinct}
+use Rattle.units.specs.declared.change.SetFuture.{SetFuture}
+use Rattle.units.specs.Change.{inRange, updateUnit, updateUnits}
+use Rattle.units.specs.Codes.{holdsAll}
 use Rattle.rope.proofs.Lists.{or-false, and-true}
 use Rattle.rope.proofs.Queue.{lt-or}
 use Rattle.rope.proofs.Held.{kept-on}

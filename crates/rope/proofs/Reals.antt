@@ -18,7 +18,7 @@ use Rattle.span.proofs.Unique.{in-range}
 use Rattle.span.proofs.UnitLaws.{part-length}
 use Rattle.store.specs.Row.{rows, rowAt}
 use Rattle.rope.specs.declared.query.RealAnswer.the-variants as Real
-use Rattle.rope.specs.Query.{Nothing, At, realSpanAt}
+use Rattle.units.specs.Query.{Nothing, At, realSpanAt}
 use Rattle.rope.specs.Entries.{realSaid}
 use Rattle.rope.specs.Spans.{Stored}
 use Rattle.rope.proofs.Rights.{row-drop, row-none, row-ok}

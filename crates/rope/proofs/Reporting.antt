@@ -22,9 +22,9 @@ use Rattle.store.specs.Row.{rows, rowAt, rowBytes, wordBytes, PutRow}
 use Rattle.store.proofs.Laws.{length-rows}
 use Rattle.rope.specs.declared.change.Delete.{Delete}
 use Rattle.rope.specs.declared.change.Part.{Part}
-use Rattle.rope.specs.Place.{shown}
+use Rattle.units.specs.Place.{shown}
 use Rattle.rope.specs.Spans.{AllOk}
-use Rattle.rope.specs.Change.{touched, pieces}
+use Rattle.units.specs.Change.{touched, pieces}
 use Rattle.rope.specs.Pieces.{deleteCut, tookOf, deleteAfter, CanDelete, partOf}
 use Rattle.rope.specs.Reports.{Report, PutPart, PutUnits, Listed}
 use Rattle.rope.proofs.Seeks.{shown-row}

@@ -20,9 +20,9 @@ use Rattle.span.proofs.Views.{len-pos}
 use Rattle.span.specs.Units.{tab, unitAt, unitsOf, expand}
 use Rattle.span.proofs.ListLaws.{tab-add}
 use Rattle.span.proofs.ForRope.{units-length, expand-append}
-use Rattle.rope.specs.declared.place.Verdict.{Verdict}
-use Rattle.rope.specs.declared.place.Verdict.the-variants.{Stop, Hold, Clear, Keep}
-use Rattle.rope.specs.Place.{memId, sibling, verdict, isStop, after, run, upTo, firstPast, Distinct}
+use Rattle.units.specs.declared.place.Verdict.{Verdict}
+use Rattle.units.specs.declared.place.Verdict.the-variants.{Stop, Hold, Clear, Keep}
+use Rattle.units.specs.Place.{memId, sibling, verdict, isStop, after, run, upTo, firstPast, Distinct}
 use Rattle.rope.specs.Spans.{width, AllOk, runS}
 use Rattle.rope.proofs.Offsets.{unit-id, unit-left, unit-status, tab-has}
 use Rattle.rope.proofs.Lists.{or-left, or-right, or-false, mem-append, mem-none}

@@ -13,10 +13,10 @@ use Rattle.span.specs.Answer.{answer}
 use Rattle.span.proofs.AnswerLaws.{is-done, is-refused}
 use Rattle.store.specs.Row.{rows, rowBytes}
 use Rattle.store.specs.Header.{headerBytes}
-use Rattle.rope.specs.Limits.{fits}
-use Rattle.rope.specs.Store.{count, room, spansOf, wellFormed, isState, stateCode}
-use Rattle.rope.specs.Query.{placeholder}
-use Rattle.rope.specs.Codes.{kept, placeholderCode}
+use Rattle.units.specs.Limits.{fits}
+use Rattle.units.specs.Store.{count, room, spansOf, wellFormed, isState, stateCode}
+use Rattle.units.specs.Query.{placeholder}
+use Rattle.units.specs.Codes.{kept, placeholderCode}
 use Rattle.rope.specs.Entries.{openCode, openBytes, openWithCode, openWithBytes}
 use Rattle.rope.specs.Spans.{Stored}
 use Rattle.rope.proofs.Lists.{and-true}

@@ -18,11 +18,12 @@ use Rattle.span.specs.Span.{lenSpan, spanCode}
 use Rattle.span.specs.Units.{expand, join}
 use Rattle.span.proofs.Unique.{AllUnits, join-expand}
 use Rattle.rope.specs.declared.delete.DeleteAnswer.{DeleteAnswer}
-use Rattle.rope.specs.Limits.{fits}
-use Rattle.rope.specs.Place.{front, behind}
-use Rattle.rope.specs.Store.{count, room, spansOf, wellFormed, isState}
-use Rattle.rope.specs.Change.{SetFuture, withState, deleteUnit, deleteFirst, deleteUnits, pieces, inRange, updateUnit, updateUnits}
-use Rattle.rope.specs.Codes.{unless, holdsAll, countsFit, updateCode}
+use Rattle.units.specs.Limits.{fits}
+use Rattle.units.specs.Place.{front, behind}
+use Rattle.units.specs.Store.{count, room, spansOf, wellFormed, isState}
+use Rattle.units.specs.declared.change.SetFuture.{SetFuture}
+use Rattle.units.specs.Change.{withState, deleteUnit, deleteFirst, deleteUnits, pieces, inRange, updateUnit, updateUnits}
+use Rattle.units.specs.Codes.{unless, holdsAll, countsFit, updateCode}
 use Rattle.rope.specs.Edits.{Edited}
 use Rattle.rope.specs.Deletions.{outRows, deleteNumber, deleteList, Deleted}
 use Rattle.rope.specs.Updated.{updateNumber, updateList}

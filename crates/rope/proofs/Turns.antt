@@ -14,9 +14,9 @@ use Rattle.span.specs.Span.{lenSpan, spanCode}
 use Rattle.span.specs.Units.{unitsOf, expand}
 use Rattle.span.proofs.ForRope.{expand-append}
 use Rattle.store.specs.Row.{rows, rowAt}
-use Rattle.rope.specs.declared.place.Verdict.{Verdict}
-use Rattle.rope.specs.declared.place.Verdict.the-variants.{Stop, Hold, Clear, Keep}
-use Rattle.rope.specs.Place.{memId, sibling, verdict, isStop, after}
+use Rattle.units.specs.declared.place.Verdict.{Verdict}
+use Rattle.units.specs.declared.place.Verdict.the-variants.{Stop, Hold, Clear, Keep}
+use Rattle.units.specs.Place.{memId, sibling, verdict, isStop, after}
 use Rattle.rope.specs.Spans.{covered, AllOk, runS}
 use Rattle.rope.proofs.Offsets.{covers-units}
 use Rattle.rope.proofs.Lists.{or-left, or-right, or-both, mem-append}

@@ -18,8 +18,8 @@ use Rattle.span.proofs.ForRope.{expand-append}
 use Rattle.store.specs.Row.{rows, rowAt}
 use Rattle.rope.specs.declared.find.Offset.{Offset}
 use Rattle.rope.specs.declared.find.Offset.the-variants as Off
-use Rattle.rope.specs.Place.{memId, Distinct}
-use Rattle.rope.specs.Store.{distinctIds}
+use Rattle.units.specs.Place.{memId, Distinct}
+use Rattle.units.specs.Store.{distinctIds}
 use Rattle.rope.specs.Spans.{offsetOf, AllOk, Fresh, holdsAny, apartRows}
 use Rattle.rope.proofs.Offsets.{unit-id, unit-off, not-unit, inc-ne, covers-units}
 use Rattle.rope.proofs.Lists.{or-left, or-right, or-both, and-true, mem-append, distinct-apart}

@@ -20,11 +20,11 @@ use Rattle.span.proofs.Unique.{join-expand}
 use Rattle.store.specs.Row.{rows}
 use Rattle.store.proofs.Laws.{length-rows}
 use Rattle.rope.specs.declared.change.Update.{Update}
-use Rattle.rope.specs.Limits.{fits}
-use Rattle.rope.specs.Place.{Distinct}
-use Rattle.rope.specs.Store.{count, room, spansOf, wellFormed, isState}
-use Rattle.rope.specs.Change.{SetFuture}
-use Rattle.rope.specs.Codes.{unless, kept, holdsAll, countsFit, updateCode, updateOf}
+use Rattle.units.specs.Limits.{fits}
+use Rattle.units.specs.Place.{Distinct}
+use Rattle.units.specs.Store.{count, room, spansOf, wellFormed, isState}
+use Rattle.units.specs.declared.change.SetFuture.{SetFuture}
+use Rattle.units.specs.Codes.{unless, kept, holdsAll, countsFit, updateCode, updateOf}
 use Rattle.rope.specs.Spans.{AllOk, Stored}
 use Rattle.rope.specs.Applies.{Updates}
 use Rattle.rope.specs.Edits.{WrittenIn, EditedIn}

@@ -25,15 +25,15 @@ use Rattle.span.proofs.ListLaws.{tab-add}
 use Rattle.span.proofs.ForRope.{expand-append}
 use Rattle.store.specs.Row.{rows, rowAt}
 use Rattle.store.proofs.Laws.{length-rows}
-use Rattle.rope.specs.declared.change.SetFuture.{SetFuture}
+use Rattle.units.specs.declared.change.SetFuture.{SetFuture}
 use Rattle.rope.specs.declared.change.Update.{Update}
 use Rattle.rope.specs.declared.change.Change.the-variants as Ch
 use Rattle.rope.specs.declared.change.Part.{Part}
-use Rattle.rope.specs.Place.{memId, Distinct}
+use Rattle.units.specs.Place.{memId, Distinct}
 use Rattle.rope.specs.Spans.{AllOk}
-use Rattle.rope.specs.Lists.{every}
-use Rattle.rope.specs.Change.{withState, baseOf, updateUnit, inRange, updateUnits}
-use Rattle.rope.specs.Codes.{countsFit}
+use Rattle.units.specs.Lists.{every}
+use Rattle.units.specs.Change.{withState, baseOf, updateUnit, inRange, updateUnits}
+use Rattle.units.specs.Codes.{countsFit}
 use Rattle.rope.specs.Pieces.{part, partAt, partFrom, updateCut, CanCut, CanChange, cutOf, afterOf, changeSpan, partOf, changedOf, piecesOf, allPieces}
 use Rattle.rope.specs.Applies.{Fit, AllFit, Applies, Updates}
 use Rattle.rope.proofs.Lists.{mem-append, or-false, and-true, distinct-right, distinct-apart}

@@ -16,8 +16,8 @@ use Rattle.span.proofs.SpanLaws.{span-ok}
 use Rattle.span.proofs.Views.{len-pos}
 use Rattle.span.specs.Units.{expand, Apart, Joined}
 use Rattle.store.specs.Row.{rows}
-use Rattle.rope.specs.Place.{memId, Distinct}
-use Rattle.rope.specs.Store.{touching, joinedRows, distinctIds, named, originsNamed, wellFormed}
+use Rattle.units.specs.Place.{memId, Distinct}
+use Rattle.units.specs.Store.{touching, joinedRows, distinctIds, named, originsNamed, wellFormed}
 use Rattle.rope.specs.Spans.{AllOk, Named, AllNamed, Good, apartRows}
 use Rattle.rope.proofs.Lists.{and-true}
 use Rattle.rope.proofs.Steps.{joined-ok}

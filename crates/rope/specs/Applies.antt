@@ -9,10 +9,10 @@ use lib.ListN.{length, take, drop}
 use Rattle.span.specs.declared.ids.Id.{Id}
 use Rattle.span.specs.Ids.{roomOpt}
 use Rattle.rope.specs.declared.change.Update.{Update}
-use Rattle.rope.specs.Place.{Distinct}
+use Rattle.units.specs.Place.{Distinct}
 use Rattle.rope.specs.Spans.{AllOk}
-use Rattle.rope.specs.Change.{deleteUnits, updateUnits}
-use Rattle.rope.specs.Codes.{countsFit}
+use Rattle.units.specs.Change.{deleteUnits, updateUnits}
+use Rattle.units.specs.Codes.{countsFit}
 use Rattle.span.specs.declared.span.FugueSpan.{FugueSpan}
 use Rattle.span.specs.declared.ids.OptId.the-variants.{At}
 use Rattle.span.specs.Span.{spanCode, partSpan}

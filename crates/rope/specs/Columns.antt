@@ -21,10 +21,14 @@ use Rattle.rope.specs.declared.diff.Step.the-variants.{End, Next}
 use Rattle.rope.specs.declared.diff.EntryNumbers.{EntryNumbers}
 use Rattle.rope.specs.declared.diff.DiffAnswer.{DiffAnswer}
 use Rattle.rope.specs.declared.diff.DiffAnswer.the-variants as Diff
-use Rattle.rope.specs.Lists.{every, over}
-use Rattle.rope.specs.Store.{spansOf, isState}
-use Rattle.rope.specs.Delta.{OptLamport, Nothing, At, Entry, Retain, Delete, Insert, insertOfSpan, insertable, entriesFrom, entries}
-use Rattle.rope.specs.Codes.{unless, kept}
+use Rattle.units.specs.Lists.{every, over}
+use Rattle.units.specs.Store.{spansOf, isState}
+use Rattle.units.specs.declared.diff.OptLamport.{OptLamport}
+use Rattle.units.specs.declared.diff.OptLamport.the-variants.{Nothing, At}
+use Rattle.units.specs.declared.diff.Entry.{Entry}
+use Rattle.units.specs.declared.diff.Entry.the-variants.{Retain, Delete, Insert}
+use Rattle.units.specs.Delta.{insertOfSpan, insertable, entriesFrom, entries}
+use Rattle.units.specs.Codes.{unless, kept}
 use Rattle.rope.specs.Spans.{Stored}
 
 -- ---------------------------------------------------------------- one entry after the other

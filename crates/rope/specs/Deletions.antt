@@ -15,11 +15,11 @@ use Rattle.store.specs.Row.{rows}
 use Rattle.rope.specs.declared.change.Delete.{Delete}
 use Rattle.rope.specs.declared.delete.DeleteAnswer.{DeleteAnswer}
 use Rattle.rope.specs.declared.delete.DeleteAnswer.the-variants.{Done, Refused}
-use Rattle.rope.specs.Limits.{fits}
-use Rattle.rope.specs.Place.{shown}
-use Rattle.rope.specs.Store.{room, spansOf, isState}
-use Rattle.rope.specs.Change.{deleteUnits, pieces}
-use Rattle.rope.specs.Codes.{unless, deleteCode}
+use Rattle.units.specs.Limits.{fits}
+use Rattle.units.specs.Place.{shown}
+use Rattle.units.specs.Store.{room, spansOf, isState}
+use Rattle.units.specs.Change.{deleteUnits, pieces}
+use Rattle.units.specs.Codes.{unless, deleteCode}
 use Rattle.rope.specs.Reports.{Report, Listed}
 use Rattle.rope.specs.Edits.{EditedIn}
 

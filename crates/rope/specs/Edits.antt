@@ -11,10 +11,10 @@ use Rattle.span.specs.Span.{lenSpan, spanCode}
 use Rattle.span.specs.Units.{expand, join}
 use Rattle.store.specs.Row.{rows}
 use Rattle.rope.specs.declared.insert.Plan.{Plan}
-use Rattle.rope.specs.Limits.{UNITS, ROWS}
-use Rattle.rope.specs.Place.{shown, insertUnits}
-use Rattle.rope.specs.Store.{room, spansOf, isState}
-use Rattle.rope.specs.Codes.{unless, kept, holdsSome, insertCode}
+use Rattle.units.specs.Limits.{UNITS, ROWS}
+use Rattle.units.specs.Place.{shown, insertUnits}
+use Rattle.units.specs.Store.{room, spansOf, isState}
+use Rattle.units.specs.Codes.{unless, kept, holdsSome, insertCode}
 use Rattle.rope.specs.Spans.{Stored}
 use Rattle.rope.specs.Plans.{planRows, Can}
 

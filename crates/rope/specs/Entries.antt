@@ -12,10 +12,10 @@ use Rattle.rope.specs.declared.query.LenAnswer.{LenAnswer}
 use Rattle.rope.specs.declared.query.LenAnswer.the-variants as Len
 use Rattle.rope.specs.declared.query.RealAnswer.{RealAnswer}
 use Rattle.rope.specs.declared.query.RealAnswer.the-variants as Real
-use Rattle.rope.specs.Place.{shown}
-use Rattle.rope.specs.Store.{room, spansOf, stateCode}
-use Rattle.rope.specs.Query.{RealSpan, Nothing, At, realSpanAt, placeholder}
-use Rattle.rope.specs.Codes.{unless, kept, placeholderCode}
+use Rattle.units.specs.Place.{shown}
+use Rattle.units.specs.Store.{room, spansOf, stateCode}
+use Rattle.units.specs.Query.{RealSpan, Nothing, At, realSpanAt, placeholder}
+use Rattle.units.specs.Codes.{unless, kept, placeholderCode}
 
 -- ---------------------------------------------------------------- opening
 

@@ -13,7 +13,7 @@ use Rattle.span.specs.Status.{status, eqZ}
 use Rattle.span.specs.Span.{joinsSpan}
 use Rattle.rope.specs.declared.exact.Exact.{Exact}
 use Rattle.rope.specs.declared.exact.Tail.{Tail}
-use Rattle.rope.specs.Change.{withState, baseOf}
+use Rattle.units.specs.Change.{withState, baseOf}
 
 -- a status with a count of 0
 abbrev pub uncounted : Status → Status

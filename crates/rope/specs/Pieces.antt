@@ -16,7 +16,7 @@ use Rattle.rope.specs.declared.change.Update.{Update}
 use Rattle.rope.specs.declared.change.Change.{Change}
 use Rattle.rope.specs.declared.change.Change.the-variants as Ch
 use Rattle.rope.specs.declared.change.Part.{Part}
-use Rattle.rope.specs.Change.{deleteUnit, baseOf, updateUnit}
+use Rattle.units.specs.Change.{deleteUnit, baseOf, updateUnit}
 
 abbrev pub part : ℕ → ℕ → Part
 part i j = record { from = i; to = j }

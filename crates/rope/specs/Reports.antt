@@ -7,7 +7,7 @@ use Rattle.span.specs.declared.span.FugueSpan.{FugueSpan}
 use Rattle.span.specs.Units.{tab, unitAt, expand}
 use Rattle.store.specs.Row.{rows}
 use Rattle.rope.specs.declared.change.Delete.{Delete}
-use Rattle.rope.specs.Place.{shown}
+use Rattle.units.specs.Place.{shown}
 use Rattle.rope.specs.Spans.{AllOk}
 use Rattle.rope.specs.Pieces.{CanDelete, partOf}
 

@@ -9,10 +9,11 @@ use Rattle.span.specs.declared.span.FugueSpan.{FugueSpan}
 use Rattle.span.specs.Units.{expand, join}
 use Rattle.store.specs.Row.{rows}
 use Rattle.rope.specs.declared.change.Update.{Update}
-use Rattle.rope.specs.Limits.{fits}
-use Rattle.rope.specs.Store.{room, spansOf, isState}
-use Rattle.rope.specs.Change.{SetFuture, updateUnits}
-use Rattle.rope.specs.Codes.{unless, holdsAll, countsFit, updateCode}
+use Rattle.units.specs.Limits.{fits}
+use Rattle.units.specs.Store.{room, spansOf, isState}
+use Rattle.units.specs.declared.change.SetFuture.{SetFuture}
+use Rattle.units.specs.Change.{updateUnits}
+use Rattle.units.specs.Codes.{unless, holdsAll, countsFit, updateCode}
 use Rattle.rope.specs.Spans.{Stored}
 
 -- the number of an update in the bytes of a store, and the list that it leaves

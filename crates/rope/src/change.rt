@@ -5,7 +5,7 @@ ghost use mathlib.Core.Bool.{true};
 ghost use Prim.Native.Nat.{_-_, min};
 ghost use lib.IntN.{_+ℤ_};
 ghost use Rattle.span.specs.Status.{activated, inI16};
-ghost use Rattle.rope.specs.Change.{withState, orReal, deleteUnit, setFuture, changeStatus, diffOr, baseOf, updateUnit};
+ghost use Rattle.units.specs.Change.{withState, orReal, deleteUnit, changeStatus, diffOr, baseOf, updateUnit};
 ghost use Rattle.rope.specs.Pieces.{deleteCut, deleteAfter, CanDelete, partAt, updateCut, cutOf, afterOf, changeSpan, CanCut, CanChange};
 use span::ids::Id;
 use span::ids::OptId;
@@ -15,13 +15,7 @@ use span::status::Counter;
 use span::status::Status;
 use span::status::StatusAnswer;
 use span::status::counter_of;
-
-// What an update does to `future`.
-pub enum SetFuture {
-    Keep,
-    Now,
-    Future,
-}
+use units::change::SetFuture;
 
 // The delete of `len` visible units after `at` visible ones. The first of them is offered the real id `start`.
 pub struct Delete {
@@ -146,18 +140,6 @@ pub fn diff_or(diff: OptStatus, status: Status) -> Status
     match diff {
         OptStatus::Nothing => status,
         OptStatus::Is(d) => d,
-    }
-}
-
-impl SetFuture {
-    pub fn apply(self, future: bool) -> bool
-        ensures { λ r. ⌜ r ≡ setFuture self future ⌝ }
-    {
-        match self {
-            SetFuture::Keep => future,
-            SetFuture::Now => false,
-            SetFuture::Future => true,
-        }
     }
 }
 

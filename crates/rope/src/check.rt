@@ -7,7 +7,7 @@ ghost use lib.ListN.{length, drop};
 ghost use Rattle.span.specs.Units.{expand};
 ghost use Rattle.store.specs.Row.{rows};
 ghost use Rattle.rope.specs.Spans.{apartRows, AllOk};
-ghost use Rattle.rope.specs.Store.{touching, joinedRows, named, originsNamed, wellFormed};
+ghost use Rattle.units.specs.Store.{touching, joinedRows, named, originsNamed, wellFormed};
 use crate::find::has;
 use crate::find::holds;
 use crate::order::order;

@@ -4,7 +4,7 @@ ghost use Prim.Native.Nat.{_*_, _≤_};
 ghost use lib.ListN.{length};
 ghost use Rattle.span.specs.Units.{expand, join};
 ghost use Rattle.store.specs.Row.{rows};
-ghost use Rattle.rope.specs.Change.{clearUnits};
+ghost use Rattle.units.specs.Change.{clearUnits};
 ghost use Rattle.rope.specs.Spans.{AllOk, clearSpan};
 use crate::stream::push;
 use span::span::FugueSpan;

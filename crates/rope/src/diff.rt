@@ -3,10 +3,10 @@ ghost use mathlib.Core.Path.{_≡_};
 ghost use Prim.Native.Nat.{_+_, _<_, min};
 ghost use lib.ListN.{length};
 ghost use Rattle.store.specs.Row.{rows};
-ghost use Rattle.rope.specs.Lists.{every};
-ghost use Rattle.rope.specs.Store.{spansOf};
+ghost use Rattle.units.specs.Lists.{every};
+ghost use Rattle.units.specs.Store.{spansOf};
 ghost use Rattle.rope.specs.Spans.{Stored};
-ghost use Rattle.rope.specs.Delta.{lamportOf, insertOfSpan, insertable, entries, isReal};
+ghost use Rattle.units.specs.Delta.{lamportOf, insertOfSpan, insertable, entries, isReal};
 ghost use Rattle.rope.specs.Columns.{changeOf, stepBy, entryNumbers, insertNumbers, least, Ahead, NextOf, Hold, Set, Filled, Diffed, diffRowsCode, getDiffCode};
 use crate::state::check;
 use span::chunk::RichtextChunk;
@@ -16,19 +16,8 @@ use span::ids::UNKNOWN_PEER;
 use span::span::DiffStatus;
 use span::span::FugueSpan;
 use store::header;
-
-// A lamport, or none.
-pub enum OptLamport {
-    Nothing,
-    At(u32),
-}
-
-// An entry of a delta: so many visible units stay, so many go, or the units of a chunk come in, the first with this real id and lamport.
-pub enum Entry {
-    Retain(u32),
-    Delete(u32),
-    Insert(RichtextChunk, Id, OptLamport),
-}
+use units::diff::Entry;
+use units::diff::OptLamport;
 
 // What a span does to the delta: nothing, or an entry.
 pub enum Change {

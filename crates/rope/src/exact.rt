@@ -8,7 +8,7 @@ ghost use Rattle.span.specs.Span.{spanCode, lenSpan};
 ghost use Rattle.span.specs.Units.{expand, join};
 ghost use Rattle.store.specs.Row.{rows};
 ghost use Rattle.rope.specs.declared.change.Change.the-variants as Ch;
-ghost use Rattle.rope.specs.Change.{updateUnit, updateUnits};
+ghost use Rattle.units.specs.Change.{updateUnit, updateUnits};
 ghost use Rattle.rope.specs.Pieces.{partOf, changedOf, piecesOf};
 ghost use Rattle.rope.specs.Spans.{AllOk};
 ghost use Rattle.rope.specs.Exact.{uncountedDiff, bare, exactOf, joinsExact, follows, stepOf, tailOf};

@@ -4,7 +4,7 @@ ghost use Prim.Native.Nat.{_*_, _≤_};
 ghost use lib.ListN.{length};
 ghost use Rattle.span.specs.Units.{expand};
 ghost use Rattle.store.specs.Row.{rows};
-ghost use Rattle.rope.specs.Place.{memId};
+ghost use Rattle.units.specs.Place.{memId};
 ghost use Rattle.rope.specs.Spans.{offsetOf, covered, findIn, meetsSpan, holdsAny, AllOk};
 use span::ids::OptId;
 use span::span::FugueSpan;

@@ -4,7 +4,7 @@ ghost use Prim.Native.Nat.{_+_, _*_, _≤_, _<_};
 ghost use lib.ListN.{length};
 ghost use Rattle.span.specs.Units.{expand};
 ghost use Rattle.store.specs.Row.{rows};
-ghost use Rattle.rope.specs.Place.{insertUnits, withOrigins};
+ghost use Rattle.units.specs.Place.{insertUnits, withOrigins};
 ghost use Rattle.rope.specs.Spans.{bordered, Border, seekIn, borderUnits, AtBorder, Ready};
 ghost use Rattle.rope.specs.Plans.{Cuts, cutRows, planned, planRows, Can, Planned};
 use crate::place::right_from;

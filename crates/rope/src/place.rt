@@ -3,51 +3,19 @@ ghost use mathlib.Core.Path.{_≡_};
 ghost use mathlib.Core.Bool.{false, cond};
 ghost use mathlib.Core.List.{[]};
 ghost use Prim.Native.Nat.{_*_, _≤_, _<_};
-ghost use lib.Dec.{ltb, eqb};
 ghost use lib.ListN.{length, drop};
 ghost use Rattle.span.specs.Span.{lenSpan, spanCode};
 ghost use Rattle.span.specs.Units.{expand};
 ghost use Rattle.store.specs.Row.{rows};
-ghost use Rattle.rope.specs.Place.{firstPast, byPos, isStop, after, prPos, sibling, verdict};
+ghost use Rattle.units.specs.Place.{firstPast, prPos, sibling, verdict};
 ghost use Rattle.rope.specs.Spans.{rightIn, runS, AllOk, Held, placeS};
 use crate::find::Offset;
 use crate::find::covers;
 use crate::find::offset_of;
 use span::ids::OptId;
 use span::span::FugueSpan;
-
-// What a scanned span does to the placement: it ends it, sets or clears "holding", or leaves it.
-pub enum Verdict {
-    Stop,
-    Hold,
-    Clear,
-    Keep,
-}
-
-impl Verdict {
-    pub fn is_stop(self) -> bool
-        ensures { λ r. ⌜ r ≡ isStop self ⌝ }
-    {
-        match self {
-            Verdict::Stop => true,
-            Verdict::Hold => false,
-            Verdict::Clear => false,
-            Verdict::Keep => false,
-        }
-    }
-
-    // What holding is after it.
-    pub fn after(self, holding: bool) -> bool
-        ensures { λ r. ⌜ r ≡ after self holding ⌝ }
-    {
-        match self {
-            Verdict::Stop => holding,
-            Verdict::Hold => true,
-            Verdict::Clear => false,
-            Verdict::Keep => holding,
-        }
-    }
-}
+use units::place::Verdict;
+use units::place::by_pos;
 
 // What a span tells of a parent right: it is this unit of it, it is a unit with another origin left, or no unit of it.
 pub enum Right {
@@ -123,22 +91,6 @@ pub fn judge(
     } else {
         let p = parent_pos(all, n, units, left, right);
         by_pos(p, m, q, row.id.peer)
-    }
-}
-
-pub fn by_pos(p: usize, m: usize, q: u64, peer: u64) -> Verdict
-    ensures { λ r. ⌜ r ≡ byPos (ltb p m) (eqb p m) (ltb q peer) ⌝ }
-{
-    if p < m {
-        Verdict::Hold
-    } else if p == m {
-        if q < peer {
-            Verdict::Stop
-        } else {
-            Verdict::Clear
-        }
-    } else {
-        Verdict::Clear
     }
 }
 

@@ -2,7 +2,7 @@
 ghost use mathlib.Core.Path.{_≡_};
 ghost use Rattle.store.specs.Row.{rows};
 ghost use Rattle.rope.specs.Spans.{Stored};
-ghost use Rattle.rope.specs.Query.{realSpanAt};
+ghost use Rattle.units.specs.Query.{realSpanAt};
 ghost use Rattle.rope.specs.Entries.{lenAnswer, realSaid, realAnswer};
 use crate::seek::visible;
 use crate::state::check;

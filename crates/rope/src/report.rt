@@ -7,7 +7,7 @@ ghost use Rattle.span.specs.Span.{spanCode, lenSpan};
 ghost use Rattle.store.specs.Row.{rows};
 ghost use mathlib.Core.List.{reverse};
 ghost use Rattle.span.specs.Units.{expand};
-ghost use Rattle.rope.specs.Change.{touched, pieces};
+ghost use Rattle.units.specs.Change.{touched, pieces};
 ghost use Rattle.rope.specs.Reports.{PutPart, PutUnits, Taken, Report, Listed};
 use crate::change::Delete;
 use span::span::FugueSpan;

@@ -5,7 +5,7 @@ ghost use lib.ListN.{length};
 ghost use Rattle.span.specs.Span.{activeLen};
 ghost use Rattle.span.specs.Units.{expand};
 ghost use Rattle.store.specs.Row.{rows};
-ghost use Rattle.rope.specs.Place.{shown};
+ghost use Rattle.units.specs.Place.{shown};
 ghost use Rattle.rope.specs.Spans.{Stored, seekIn};
 use span::span::FugueSpan;
 

@@ -1,7 +1,7 @@
 // A store in lent bytes: opening one, and the check that every entry asks before all else (refusal 15).
 ghost use mathlib.Core.Path.{_≡_};
-ghost use Rattle.rope.specs.Query.{placeholder};
-ghost use Rattle.rope.specs.Store.{isState};
+ghost use Rattle.units.specs.Query.{placeholder};
+ghost use Rattle.units.specs.Store.{isState};
 ghost use Rattle.rope.specs.Entries.{openCode, openBytes, openWithCode, openWithBytes};
 use crate::check::well_formed;
 use span::chunk::RichtextChunk;

@@ -8,17 +8,16 @@ ghost use Rattle.span.specs.Span.{spanCode};
 ghost use Rattle.span.specs.Status.{inI16};
 ghost use Rattle.span.specs.Units.{unitsOf, expand, join};
 ghost use Rattle.store.specs.Row.{rows};
-ghost use Rattle.rope.specs.Change.{baseOf, inRange, updateUnits};
-ghost use Rattle.rope.specs.Codes.{holdsAll, countsFit, updateCode};
-ghost use Rattle.rope.specs.Lists.{keepIf};
+ghost use Rattle.units.specs.Change.{baseOf, inRange, updateUnits};
+ghost use Rattle.units.specs.Codes.{holdsAll, countsFit, updateCode};
+ghost use Rattle.units.specs.Lists.{keepIf};
 ghost use Rattle.rope.specs.Spans.{AllOk, Stored};
 ghost use Rattle.rope.specs.Applies.{Updates};
-ghost use Rattle.rope.specs.Store.{room, spansOf, isState};
+ghost use Rattle.units.specs.Store.{room, spansOf, isState};
 ghost use Rattle.rope.specs.Edits.{WrittenIn, EditedIn};
 ghost use Rattle.rope.specs.Updated.{updateNumber, updateList, updatedUnits, updateRest, Rewrites};
 use crate::apply::apply;
 use crate::change::Change;
-use crate::change::SetFuture;
 use crate::change::Update;
 use crate::change::past;
 use crate::edit::room_end;
@@ -29,6 +28,7 @@ use span::status::Counter;
 use span::status::StatusAnswer;
 use span::status::counter_of;
 use store::header;
+use units::change::SetFuture;
 
 // The update of a range of counters of a peer, in a well formed list with room for what it becomes, which the entry asked. The answer is the
 // number of rows.

@@ -14,8 +14,8 @@ use Rattle.span.specs.declared.span.FugueSpan.{FugueSpan}
 use Rattle.rope.specs.declared.diff.EntryNumbers.{EntryNumbers}
 use Rattle.rope.specs.declared.diff.DiffAnswer.{DiffAnswer}
 use Rattle.rope.specs.declared.diff.DiffAnswer.the-variants as Diff
-use Rattle.rope.specs.Store.{spansOf}
-use Rattle.rope.specs.Delta.{entries}
+use Rattle.units.specs.Store.{spansOf}
+use Rattle.units.specs.Delta.{entries}
 use Rattle.rope.specs.Columns.{Diffed}
 use Rattle.apply.specs.declared.item.Item.{Item}
 use Rattle.apply.specs.declared.delta.ApplyAnswer.{ApplyAnswer}

@@ -16,11 +16,11 @@ use Rattle.span.specs.declared.span.FugueSpan.{FugueSpan}
 use Rattle.span.specs.Answer.{answer}
 use Rattle.text.specs.Ascii.{ascii}
 use Rattle.script.specs.Print.{numberText, idText, chunkText, headLine}
-use Rattle.rope.specs.Lists.{over}
-use Rattle.rope.specs.declared.diff.Entry.{Entry}
-use Rattle.rope.specs.declared.diff.Entry.the-variants.{Retain, Delete, Insert}
-use Rattle.rope.specs.declared.diff.OptLamport.the-variants.{Nothing, At}
-use Rattle.rope.specs.Delta.{entries}
+use Rattle.units.specs.Lists.{over}
+use Rattle.units.specs.declared.diff.Entry.{Entry}
+use Rattle.units.specs.declared.diff.Entry.the-variants.{Retain, Delete, Insert}
+use Rattle.units.specs.declared.diff.OptLamport.the-variants.{Nothing, At}
+use Rattle.units.specs.Delta.{entries}
 use Rattle.rope.specs.declared.diff.EntryNumbers.{EntryNumbers}
 use Rattle.rope.specs.declared.diff.DiffAnswer.{DiffAnswer}
 use Rattle.rope.specs.declared.diff.DiffAnswer.the-variants as Diff

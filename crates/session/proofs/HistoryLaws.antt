@@ -7,7 +7,7 @@ use Rattle.tracker.specs.declared.row.Head.{Head}
 use Rattle.tracker.specs.Rows.{toEdit}
 use Rattle.tracker.specs.Entries.{versionOf, Leaves, arriveNumber, arrived, checkoutNumber, checkedOut}
 use Rattle.rope.specs.declared.diff.DiffAnswer.{DiffAnswer}
-use Rattle.rope.specs.Delta.{entries}
+use Rattle.units.specs.Delta.{entries}
 use Rattle.tracker.specs.Between.{between, Deltas}
 use Rattle.session.specs.Say.{Says}
 use Rattle.session.specs.Lines.{doneLines}

@@ -20,10 +20,10 @@ use Rattle.span.proofs.Unique.{in-range}
 use Rattle.store.specs.Row.{spanOf, rowAt, rows}
 use Rattle.store.specs.Header.{count, room, spansOf}
 use Rattle.store.proofs.Laws.{words-moved, length-rows, rows-at}
-use Rattle.rope.specs.Lists.{keepIf}
-use Rattle.rope.specs.Query.{visibles}
+use Rattle.units.specs.Lists.{keepIf}
+use Rattle.units.specs.Query.{visibles}
 use Rattle.rope.specs.Spans.{AllOk}
-use Rattle.rope.specs.Store.{isState}
+use Rattle.units.specs.Store.{isState}
 use Rattle.rope.proofs.WellFormed.{Formed, formed-of}
 use Rattle.rope.proofs.States.{part-rest, room-long, state-of}
 use Rattle.tracker.specs.Rows.{isHistory}

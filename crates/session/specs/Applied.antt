@@ -7,11 +7,11 @@ use lib.Dec.{eqb, leb}
 use lib.ListN.{length, take, drop}
 use Rattle.words.specs.Le.{put}
 use Rattle.span.specs.Answer.{answer}
-use Rattle.rope.specs.declared.diff.Entry.{Entry}
+use Rattle.units.specs.declared.diff.Entry.{Entry}
 use Rattle.rope.specs.declared.diff.EntryNumbers.{EntryNumbers}
-use Rattle.rope.specs.Store.{spansOf, isState}
-use Rattle.rope.specs.Codes.{unless, kept}
-use Rattle.rope.specs.Delta.{entries}
+use Rattle.units.specs.Store.{spansOf, isState}
+use Rattle.units.specs.Codes.{unless, kept}
+use Rattle.units.specs.Delta.{entries}
 use Rattle.rope.specs.Columns.{column}
 use Rattle.apply.specs.declared.item.Item.{Item}
 use Rattle.apply.specs.declared.delta.ApplyAnswer.{ApplyAnswer}

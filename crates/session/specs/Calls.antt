@@ -9,8 +9,8 @@ use Rattle.span.specs.Answer.{answer}
 use Rattle.rope.specs.Edits.{EditedIn}
 use Rattle.rope.specs.Deletions.{Deleted}
 use Rattle.rope.specs.declared.delete.DeleteAnswer.the-variants as Delete
-use Rattle.rope.specs.declared.change.SetFuture as To
-use Rattle.rope.specs.declared.change.SetFuture.the-variants as Set
+use Rattle.units.specs.declared.change.SetFuture as To
+use Rattle.units.specs.declared.change.SetFuture.the-variants as Set
 use Rattle.script.specs.declared.call.SetFuture.{SetFuture}
 use Rattle.script.specs.declared.call.SetFuture.the-variants as Word
 use Rattle.session.specs.Say.{Says}

@@ -7,10 +7,10 @@ use lib.ListN.{length, getD}
 use Rattle.text.specs.Ascii.{ascii}
 use Rattle.span.specs.Chunk.{chunk}
 use Rattle.store.specs.Row.{idOf}
-use Rattle.rope.specs.declared.diff.Entry.{Entry}
+use Rattle.units.specs.declared.diff.Entry.{Entry}
 use Rattle.rope.specs.declared.diff.EntryNumbers.{EntryNumbers}
-use Rattle.rope.specs.Store.{spansOf}
-use Rattle.rope.specs.Delta.{entries}
+use Rattle.units.specs.Store.{spansOf}
+use Rattle.units.specs.Delta.{entries}
 use Rattle.rope.specs.Columns.{numbers, entryNumbers, getDiffCode}
 use Rattle.apply.specs.declared.item.Item.{Item}
 use Rattle.apply.specs.declared.delta.ApplyAnswer.{ApplyAnswer}

@@ -1,7 +1,7 @@
 -- The calls of a history, with versions and contexts as words: what each says, and what it leaves
 use Prim.Native.Nat.{ℕ}
 use mathlib.Core.List.{List}
-use Rattle.rope.specs.Delta.{entries}
+use Rattle.units.specs.Delta.{entries}
 use Rattle.tracker.specs.declared.row.Head.{Head}
 use Rattle.tracker.specs.Rows.{toEdit}
 use Rattle.tracker.specs.Entries.{versionOf, Leaves, arriveNumber, arrived, checkoutNumber, checkedOut}

@@ -20,7 +20,7 @@ use Rattle.rope.specs.declared.query.LenAnswer.{LenAnswer}
 use Rattle.rope.specs.declared.query.LenAnswer.the-variants as Len
 use Rattle.rope.specs.declared.query.RealAnswer.{RealAnswer}
 use Rattle.rope.specs.declared.query.RealAnswer.the-variants as Real
-use Rattle.rope.specs.Store.{isState}
+use Rattle.units.specs.Store.{isState}
 use Rattle.rope.specs.Entries.{lenAnswer, realAnswer}
 use Rattle.tracker.specs.Rows.{isHistory}
 use Rattle.tracker.specs.Asks.{lenAsked, realAsked}

@@ -6,7 +6,7 @@ use Rattle.text.specs.Ascii.{ascii}
 use Rattle.span.specs.declared.span.FugueSpan.{FugueSpan}
 use Rattle.span.specs.Span.{lenSpan, realOf}
 use Rattle.span.specs.Units.{expand}
-use Rattle.rope.specs.Query.{visibles}
+use Rattle.units.specs.Query.{visibles}
 use Rattle.script.specs.Print.{headLine, unitLine, spanLine, itemLine}
 use Rattle.session.specs.declared.look.Kind.{Kind}
 use Rattle.session.specs.declared.look.Kind.the-variants as Kind

@@ -2,8 +2,8 @@
 ghost use mathlib.Core.Path.{_≡_};
 ghost use Rattle.span.specs.Span.{newSpan};
 ghost use Rattle.span.specs.Units.{expand, join};
-ghost use Rattle.rope.specs.Store.{spansOf, stateCode};
-ghost use Rattle.rope.specs.Change.{clearUnits, pieces};
+ghost use Rattle.units.specs.Store.{spansOf, stateCode};
+ghost use Rattle.units.specs.Change.{clearUnits, pieces};
 ghost use Rattle.rope.specs.Edits.{insertNumber, insertList};
 ghost use Rattle.rope.specs.Updated.{updateNumber, updateList};
 ghost use Rattle.rope.specs.Deletions.{deleteNumber, deleteList};
@@ -66,13 +66,13 @@ fn delete(x: Delete, s: &mut [u8], out: &mut [u8], text: &mut [u8], at: usize) -
     }
 }
 
-fn future(set: SetFuture) -> rope::change::SetFuture
+fn future(set: SetFuture) -> units::change::SetFuture
     ensures { λ r. ⌜ r ≡ setOf set ⌝ }
 {
     match set {
-        SetFuture::Keep => rope::change::SetFuture::Keep,
-        SetFuture::Now => rope::change::SetFuture::Now,
-        SetFuture::Future => rope::change::SetFuture::Future,
+        SetFuture::Keep => units::change::SetFuture::Keep,
+        SetFuture::Now => units::change::SetFuture::Now,
+        SetFuture::Future => units::change::SetFuture::Future,
     }
 }
 

@@ -2,7 +2,7 @@
 ghost use mathlib.Core.Path.{_≡_};
 ghost use Prim.Native.Nat.{_%_, _^_};
 ghost use Rattle.span.specs.Span.{sliceSpanOf};
-ghost use Rattle.rope.specs.Store.{isState};
+ghost use Rattle.units.specs.Store.{isState};
 ghost use Rattle.tracker.specs.Rows.{isHistory};
 ghost use Rattle.session.specs.Say.{Says};
 ghost use Rattle.session.specs.Lines.{lenLines, atLines, sumLines, unitLines, unitsLines, spanLines, spanCount, rowOf, rowLines, rowCount, rowsSaid, rowsLines, rowsCount, kindName, listLines, sumFrom, ropeSum, historySum, withinLines, rowFits, rowsFit, rowSet, rowsSet, lookStore, ropeLook, historyLook};

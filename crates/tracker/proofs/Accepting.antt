@@ -18,11 +18,11 @@ use Rattle.span.specs.Units.{expand, join}
 use Rattle.store.specs.Row.{rows}
 use Rattle.store.specs.Header.{count, room, spansOf}
 use Rattle.store.proofs.Laws.{length-rows}
-use Rattle.rope.specs.Limits.{ROWS, UNITS, EDITS, fits}
-use Rattle.rope.specs.Store.{wellFormed, isState}
-use Rattle.rope.specs.Codes.{unless, holdsSome, insertCode}
-use Rattle.rope.specs.Place.{shown, insertUnits, memId}
-use Rattle.rope.specs.Change.{deleteUnits}
+use Rattle.units.specs.Limits.{ROWS, UNITS, EDITS, fits}
+use Rattle.units.specs.Store.{wellFormed, isState}
+use Rattle.units.specs.Codes.{unless, holdsSome, insertCode}
+use Rattle.units.specs.Place.{shown, insertUnits, memId}
+use Rattle.units.specs.Change.{deleteUnits}
 use Rattle.rope.specs.Spans.{Fresh}
 use Rattle.rope.specs.Edits.{WrittenIn, insertFirst}
 use Rattle.rope.proofs.Admits.{code-done, first-0}

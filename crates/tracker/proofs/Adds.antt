@@ -23,9 +23,9 @@ use Rattle.span.proofs.Views.{len-pos}
 use Rattle.span.proofs.UnitLaws.{run-eq, join-to, unit-id}
 use Rattle.span.proofs.Unique.{AllUnits, join-joined, expand-join, join-expand, cut-merge, cut-join, one-unit}
 use Rattle.span.proofs.ForRope.{unit-is, span-units, list-units, expand-append}
-use Rattle.rope.specs.Place.{memId, Distinct, front, behind, shown, lastId, firstPast, upTo, run, putAt, verdict, prPos, scanPlace, withOrigins, originLeft, originRight, insertUnits}
+use Rattle.units.specs.Place.{memId, Distinct, front, behind, shown, lastId, firstPast, upTo, run, putAt, verdict, prPos, scanPlace, withOrigins, originLeft, originRight, insertUnits}
 use Rattle.rope.specs.Spans.{Fresh, Named, AllNamed, width, runS}
-use Rattle.rope.specs.Store.{named, originsNamed}
+use Rattle.units.specs.Store.{named, originsNamed}
 use Rattle.rope.proofs.Lists.{or-left, or-right, and-true, mem-append, mem-none, distinct-right, distinct-apart}
 use Rattle.rope.proofs.Edges.{left-of-merged, part-to-whole, joined-right, no-join}
 use Rattle.rope.proofs.Steps.{joined-ok}

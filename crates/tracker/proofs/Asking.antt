@@ -11,9 +11,9 @@ use Rattle.store.specs.Row.{rows}
 use Rattle.store.specs.Header.{count, room}
 use Rattle.rope.specs.declared.query.LenAnswer.the-variants as Len
 use Rattle.rope.specs.declared.query.RealAnswer.the-variants as Real
-use Rattle.rope.specs.Place.{shown}
-use Rattle.rope.specs.Query.{realSpanAt}
-use Rattle.rope.specs.Codes.{unless}
+use Rattle.units.specs.Place.{shown}
+use Rattle.units.specs.Query.{realSpanAt}
+use Rattle.units.specs.Codes.{unless}
 use Rattle.rope.specs.Entries.{realSaid}
 use Rattle.rope.proofs.States.{part}
 use Rattle.rope.proofs.Entering.{rows-are}

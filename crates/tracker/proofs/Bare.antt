@@ -7,7 +7,7 @@ use lib.Dec.{eqb}
 use lib.IntN.{pos}
 use lib.ListN.{drop}
 use lib.Signed.{leZ}
-use Rattle.rope.specs.Lists.{every, some}
+use Rattle.units.specs.Lists.{every, some}
 use Rattle.history.specs.Edit.{Version, Edit, Held, size}
 use Rattle.history.specs.Version.{heldCount, rising, isHeld, named, closedFor, closed}
 use Rattle.history.specs.Valid.{hasPeer, peerCount, editCode, editsFit}

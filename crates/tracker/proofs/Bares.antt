@@ -7,7 +7,7 @@ use Rattle.span.specs.declared.span.FugueSpan.{FugueSpan}
 use Rattle.span.specs.Span.{lenSpan, spanCode, idsOk, shift, leftOf}
 use Rattle.span.specs.Units.{tab, unitAt, unitsOf, expand}
 use Rattle.store.specs.Row.{rowAt}
-use Rattle.rope.specs.Change.{withState}
+use Rattle.units.specs.Change.{withState}
 use Rattle.rope.specs.Spans.{AllOk}
 use Rattle.rope.specs.Streams.{Pushable, Pushed, Stream}
 use Rattle.rope.proofs.Streaming.{stream-row, stream-ok, stream-room, stream-next}

@@ -9,8 +9,8 @@ use lib.ListN.{length, take, drop, length-drop}
 use lib.Seq.{take-all, drop-drop}
 use borrow.Author.Tests.{eq-eqb, ne-eqb}
 use Rattle.store.specs.Header.{room}
-use Rattle.rope.specs.Limits.{ROWS}
-use Rattle.rope.specs.Codes.{unless, kept}
+use Rattle.units.specs.Limits.{ROWS}
+use Rattle.units.specs.Codes.{unless, kept}
 use Rattle.history.specs.Edit.{Edit, History}
 use Rattle.history.specs.Arrive.{arrive}
 use Rattle.history.specs.Codes.{onUnits, stored, arriveCode}

@@ -14,15 +14,15 @@ use Rattle.store.specs.Row.{rows}
 use Rattle.store.specs.Header.{count, room, spansOf}
 use Rattle.store.proofs.Laws.{length-rows}
 use Rattle.rope.specs.declared.diff.DiffAnswer.{DiffAnswer}
-use Rattle.rope.specs.declared.diff.Entry.{Entry}
-use Rattle.rope.specs.Limits.{fits}
-use Rattle.rope.specs.Lists.{every}
-use Rattle.rope.specs.Change.{withState}
-use Rattle.rope.specs.Store.{wellFormed, isState}
-use Rattle.rope.specs.Codes.{unless}
+use Rattle.units.specs.declared.diff.Entry.{Entry}
+use Rattle.units.specs.Limits.{fits}
+use Rattle.units.specs.Lists.{every}
+use Rattle.units.specs.Change.{withState}
+use Rattle.units.specs.Store.{wellFormed, isState}
+use Rattle.units.specs.Codes.{unless}
 use Rattle.rope.specs.Spans.{Stored}
 use Rattle.rope.specs.Edits.{WrittenIn}
-use Rattle.rope.specs.Delta.{insertable, entries}
+use Rattle.units.specs.Delta.{insertable, entries}
 use Rattle.rope.specs.Columns.{diffRowsCode, Diffed}
 use Rattle.rope.proofs.Alikes.{Alike, alike-ok}
 use Rattle.rope.proofs.Keeps.{UnitsOk, units-ok, join-formed}

@@ -10,9 +10,9 @@ use lib.ListN.{length}
 use borrow.Author.Tests.{eqb-true, eq-eqb, leb-true}
 use Rattle.store.specs.Header.{room}
 use Rattle.store.specs.Limits.{ROWS}
-use Rattle.rope.specs.declared.diff.Entry.{Entry}
-use Rattle.rope.specs.Store.{isState}
-use Rattle.rope.specs.Codes.{unless, kept}
+use Rattle.units.specs.declared.diff.Entry.{Entry}
+use Rattle.units.specs.Store.{isState}
+use Rattle.units.specs.Codes.{unless, kept}
 use Rattle.history.specs.Edit.{Version, Edit, History}
 use Rattle.history.specs.Checkout.{checkout}
 use Rattle.history.specs.Arrive.{start, arrive}

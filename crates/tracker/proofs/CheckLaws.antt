@@ -15,9 +15,9 @@ use Rattle.store.specs.Row.{rows}
 use Rattle.store.specs.Header.{count, room, spansOf}
 use Rattle.store.specs.Limits.{EDITS}
 use Rattle.store.proofs.Laws.{length-rows}
-use Rattle.rope.specs.Limits.{fits}
-use Rattle.rope.specs.Lists.{every}
-use Rattle.rope.specs.Store.{isState}
+use Rattle.units.specs.Limits.{fits}
+use Rattle.units.specs.Lists.{every}
+use Rattle.units.specs.Store.{isState}
 use Rattle.rope.proofs.States.{part}
 use Rattle.rope.proofs.Entering.{rows-are, state-fits, state-formed}
 use Rattle.history.specs.Edit.{Held}

@@ -12,16 +12,16 @@ use Rattle.span.specs.declared.span.FugueSpan.{FugueSpan}
 use Rattle.span.specs.Units.{expand, join}
 use Rattle.store.specs.Row.{rows}
 use Rattle.store.specs.Header.{count, room, spansOf}
-use Rattle.rope.specs.Limits.{ROWS, EDITS, PEERS, fits}
-use Rattle.rope.specs.Store.{isState}
-use Rattle.rope.specs.Codes.{unless, kept}
+use Rattle.units.specs.Limits.{ROWS, EDITS, PEERS, fits}
+use Rattle.units.specs.Store.{isState}
+use Rattle.units.specs.Codes.{unless, kept}
 use Rattle.rope.specs.Spans.{Stored}
 use Rattle.rope.specs.Edits.{WrittenIn}
 use Rattle.rope.proofs.Entering.{state-head, state-stored, rows-are}
 use Rattle.rope.proofs.States.{part, part-rest}
 use Rattle.history.specs.Edit.{Version, Held, History}
 use Rattle.history.specs.Version.{named, closed, versionCode, rising, above, isHeld}
-use Rattle.rope.specs.Lists.{every}
+use Rattle.units.specs.Lists.{every}
 use Rattle.history.specs.Checkout.{unitAt, unitsAt, checkout}
 use Rattle.history.specs.Valid.{valid}
 use Rattle.history.specs.Codes.{onUnits, stored, checkoutCode}

@@ -11,9 +11,9 @@ use Rattle.span.specs.Units.{unitsOf, expand, join}
 use Rattle.store.specs.Row.{rows}
 use Rattle.rope.specs.declared.change.Delete.{Delete}
 use Rattle.rope.specs.declared.change.Change.the-variants as Ch
-use Rattle.rope.specs.Place.{front, behind}
+use Rattle.units.specs.Place.{front, behind}
 use Rattle.rope.specs.Spans.{Stored, AllOk}
-use Rattle.rope.specs.Change.{deleteFirst, deleteUnits}
+use Rattle.units.specs.Change.{deleteFirst, deleteUnits}
 use Rattle.rope.specs.Pieces.{deleteAfter, CanDelete, piecesOf}
 use Rattle.rope.specs.Applies.{Fit, AllFit, Waiting, Grown, Kept}
 use Rattle.rope.proofs.Cuts.{can-after}

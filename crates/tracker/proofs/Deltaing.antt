@@ -11,11 +11,11 @@ use Rattle.span.proofs.AnswerLaws.{is-refused}
 use Rattle.store.specs.Header.{room}
 use Rattle.rope.specs.declared.diff.DiffAnswer.{DiffAnswer}
 use Rattle.rope.specs.declared.diff.DiffAnswer.the-variants as Diff
-use Rattle.rope.specs.declared.diff.Entry.{Entry}
+use Rattle.units.specs.declared.diff.Entry.{Entry}
 use Rattle.rope.specs.declared.diff.EntryNumbers.{EntryNumbers}
-use Rattle.rope.specs.Lists.{over}
-use Rattle.rope.specs.Codes.{unless, kept}
-use Rattle.rope.specs.Delta.{entries}
+use Rattle.units.specs.Lists.{over}
+use Rattle.units.specs.Codes.{unless, kept}
+use Rattle.units.specs.Delta.{entries}
 use Rattle.rope.specs.Columns.{diffNumber, column, columnOf, Diffed}
 use Rattle.history.specs.Edit.{Version, Held}
 use Rattle.history.specs.Version.{named}

@@ -13,8 +13,8 @@ use Rattle.span.specs.Units.{expand, join}
 use Rattle.store.specs.Row.{rows}
 use Rattle.store.specs.Header.{count, room, spansOf}
 use Rattle.rope.specs.declared.change.Delete.{Delete}
-use Rattle.rope.specs.Place.{shown}
-use Rattle.rope.specs.Change.{deleteUnits}
+use Rattle.units.specs.Place.{shown}
+use Rattle.units.specs.Change.{deleteUnits}
 use Rattle.rope.specs.Spans.{AllOk}
 use Rattle.rope.specs.Reports.{Taken}
 use Rattle.rope.specs.Deletions.{Removes}

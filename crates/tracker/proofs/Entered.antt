@@ -4,9 +4,9 @@ use mathlib.Core.Path.{_≡_, refl, sym, ap, _∙_}
 use mathlib.Core.List.{List}
 use lib.ListN.{length}
 use Rattle.store.specs.Header.{room}
-use Rattle.rope.specs.declared.diff.Entry.{Entry}
+use Rattle.units.specs.declared.diff.Entry.{Entry}
 use Rattle.rope.specs.declared.diff.DiffAnswer.{DiffAnswer}
-use Rattle.rope.specs.Codes.{unless, kept}
+use Rattle.units.specs.Codes.{unless, kept}
 use Rattle.history.specs.Edit.{Version}
 use Rattle.history.specs.Codes.{deltaCode}
 use Rattle.tracker.specs.Rows.{targetRoom, historyIn, isHistory}

@@ -23,7 +23,7 @@ use Rattle.store.specs.Row.{rows, rowAt}
 use Rattle.rope.specs.declared.find.Offset.{Offset}
 use Rattle.rope.specs.declared.find.Offset.the-variants as Off
 use Rattle.rope.specs.Spans.{offsetOf}
-use Rattle.rope.specs.Lists.{some}
+use Rattle.units.specs.Lists.{some}
 use Rattle.rope.proofs.Lists.{or-false, or-both}
 use Rattle.rope.proofs.Offsets.{inc-ne, tab-not, unit-off}
 use Rattle.rope.proofs.Rights.{row-drop, row-none}

@@ -17,7 +17,7 @@ use borrow.Author.Tests.{eqb-true, eq-eqb, leb-true}
 use Rattle.span.specs.Ids.{UNKNOWN-PEER, roomOf, roomOpt}
 use Rattle.span.proofs.IdsLaws.{Room, roomy}
 use Rattle.store.specs.Row.{bits32}
-use Rattle.rope.specs.Lists.{every}
+use Rattle.units.specs.Lists.{every}
 use Rattle.history.specs.Edit.{Count, Version, Act, Insert, Delete, Edit, size, Held, History}
 use Rattle.history.specs.Version.{number, heldCount, rising, isHeld, named}
 use Rattle.history.specs.Valid.{editCode, editsFit, valid}

@@ -18,8 +18,8 @@ use Rattle.span.specs.declared.status.Counter.the-variants as Ctr
 use Rattle.span.specs.Ids.{roomOpt}
 use Rattle.span.specs.Status.{eqZ, counterOf}
 use Rattle.store.specs.Limits.{PEERS}
-use Rattle.rope.specs.Codes.{unless}
-use Rattle.rope.specs.Lists.{every, some}
+use Rattle.units.specs.Codes.{unless}
+use Rattle.units.specs.Lists.{every, some}
 use Rattle.history.specs.Edit.{Version, Act, Edit, Held, size, sizeOf}
 use Rattle.history.specs.Version.{countOf, below, heldCount, above, rising, isHeld, named, within, wholeAct, closedFor, closed, versionCode}
 use Rattle.history.specs.Valid.{actFormed, actIds, hasPeer, peerCount, ownCount, editCode, editsFit}

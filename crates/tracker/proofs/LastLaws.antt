@@ -15,8 +15,8 @@ use Rattle.span.specs.Ids.{roomOpt}
 use Rattle.span.specs.Status.{eqZ}
 use Rattle.span.proofs.StatusLaws.{eqZ-true}
 use Rattle.store.specs.Limits.{PEERS}
-use Rattle.rope.specs.Codes.{unless}
-use Rattle.rope.specs.Lists.{every}
+use Rattle.units.specs.Codes.{unless}
+use Rattle.units.specs.Lists.{every}
 use Rattle.history.specs.Edit.{Version, Act, Insert, Delete, Edit, Held, size, sizeOf}
 use Rattle.history.specs.Version.{number, countOf, below, heldCount, named, within, wholeAct, closedFor, closed}
 use Rattle.history.specs.Valid.{actFormed, actIds, hasPeer, peerCount, ownCount, editCode, editsFit}

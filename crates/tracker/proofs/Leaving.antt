@@ -12,9 +12,9 @@ use Rattle.span.specs.Units.{expand, join}
 use Rattle.store.specs.Row.{rows}
 use Rattle.store.specs.Header.{count, room, spansOf}
 use Rattle.store.proofs.Laws.{length-rows}
-use Rattle.rope.specs.Limits.{EDITS}
-use Rattle.rope.specs.Store.{wellFormed, isState}
-use Rattle.rope.specs.Codes.{unless, kept}
+use Rattle.units.specs.Limits.{EDITS}
+use Rattle.units.specs.Store.{wellFormed, isState}
+use Rattle.units.specs.Codes.{unless, kept}
 use Rattle.rope.specs.Edits.{Written, WrittenIn}
 use Rattle.rope.proofs.States.{state-rows}
 use Rattle.history.specs.Edit.{History}

@@ -11,7 +11,7 @@ use Rattle.span.specs.Status.{activated}
 use Rattle.span.specs.Span.{lenSpan, activeLen}
 use Rattle.span.specs.Units.{tab, unitAt, unitsOf, expand}
 use Rattle.span.proofs.ListLaws.{take-tab, drop-tab}
-use Rattle.rope.specs.Place.{front, behind, shown}
+use Rattle.units.specs.Place.{front, behind, shown}
 use Rattle.rope.specs.Spans.{Stored}
 use Rattle.rope.proofs.Seeks.{front-in, behind-in, front-vis, behind-vis, front-inv, behind-inv, active-is, shown-row}
 use Rattle.history.specs.Edit.{Version, Held}

@@ -8,8 +8,8 @@ use lib.Dec.{eqb, ltb}
 use lib.ListN.{length}
 use borrow.Author.Tests.{ne-eqb}
 use Rattle.store.specs.Header.{room}
-use Rattle.rope.specs.Limits.{EDITS}
-use Rattle.rope.specs.Codes.{unless}
+use Rattle.units.specs.Limits.{EDITS}
+use Rattle.units.specs.Codes.{unless}
 use Rattle.history.specs.Edit.{Version, Edit, Held, History}
 use Rattle.history.specs.Version.{named}
 use Rattle.history.specs.Valid.{editCode, valid}

@@ -28,9 +28,9 @@ use Rattle.span.proofs.IdsLaws.{room-opt}
 use Rattle.span.proofs.UnitLaws.{span-of}
 use Rattle.store.specs.Row.{rows, rowAt}
 use Rattle.store.specs.Limits.{PEERS}
-use Rattle.rope.specs.Lists.{every, some}
-use Rattle.rope.specs.Codes.{unless}
-use Rattle.rope.specs.Query.{placeholder}
+use Rattle.units.specs.Lists.{every, some}
+use Rattle.units.specs.Codes.{unless}
+use Rattle.units.specs.Query.{placeholder}
 use Rattle.rope.proofs.Lists.{and-true}
 use Rattle.rope.proofs.Rights.{row-drop, row-none}
 use Rattle.history.specs.Edit.{Act, Insert, Delete, Edit, size, sizeOf, Held}

@@ -15,10 +15,10 @@ use Rattle.span.specs.Units.{unitsOf, expand, Joined, join}
 use Rattle.span.proofs.ForRope.{units-length, expand-append, joined-is}
 use Rattle.store.specs.Row.{rows, rowAt}
 use Rattle.store.proofs.Laws.{length-rows}
-use Rattle.rope.specs.Lists.{every}
-use Rattle.rope.specs.declared.diff.Entry.{Entry}
-use Rattle.rope.specs.declared.diff.Entry.the-variants.{Retain, Delete}
-use Rattle.rope.specs.Delta.{retain, entryBy, entriesFrom, entries, isReal, realIfCreated, insertable, insertOfSpan}
+use Rattle.units.specs.Lists.{every}
+use Rattle.units.specs.declared.diff.Entry.{Entry}
+use Rattle.units.specs.declared.diff.Entry.the-variants.{Retain, Delete}
+use Rattle.units.specs.Delta.{retain, entryBy, entriesFrom, entries, isReal, realIfCreated, insertable, insertOfSpan}
 use Rattle.rope.specs.Spans.{Stored, AllOk}
 use Rattle.rope.specs.Streams.{Pushable, Pushed}
 use Rattle.rope.specs.Applies.{Kept}

@@ -14,8 +14,8 @@ use Rattle.span.proofs.Views.{len-pos}
 use Rattle.span.proofs.Unique.{AllUnits, one-unit}
 use Rattle.span.proofs.ForRope.{units-length, span-units, expand-append}
 use Rattle.store.specs.Row.{rows, rowAt}
-use Rattle.rope.specs.Change.{withState}
-use Rattle.rope.specs.Place.{shown}
+use Rattle.units.specs.Change.{withState}
+use Rattle.units.specs.Place.{shown}
 use Rattle.rope.specs.Spans.{Stored, AllOk}
 use Rattle.rope.proofs.Rights.{row-drop, row-none}
 use Rattle.rope.proofs.Whole.{ok-drop}

@@ -16,8 +16,8 @@ use Rattle.span.proofs.ForRope.{joined-is}
 use Rattle.store.specs.Row.{rowBytes, wordBytes}
 use Rattle.store.specs.Header.{room, spansOf}
 use Rattle.store.specs.Header as Spans
-use Rattle.rope.specs.Query.{placeholder}
-use Rattle.rope.specs.Codes.{placeholderCode}
+use Rattle.units.specs.Query.{placeholder}
+use Rattle.units.specs.Codes.{placeholderCode}
 use Rattle.rope.specs.Entries.{openBytes, openWithCode, openWithBytes}
 use Rattle.rope.specs.Edits.{pastRows}
 use Rattle.rope.proofs.Opened.{empty-spans, placeholder-ok, placeholder-spans}

@@ -14,11 +14,11 @@ use Rattle.span.specs.Ids.{roomOpt}
 use Rattle.span.specs.Status.{eqZ}
 use Rattle.span.specs.Units.{join}
 use Rattle.store.specs.Header.{room}
-use Rattle.rope.specs.declared.diff.Entry.{Entry}
-use Rattle.rope.specs.Limits.{PEERS, EDITS, fits}
-use Rattle.rope.specs.Lists.{every}
-use Rattle.rope.specs.Delta.{insertable}
-use Rattle.rope.specs.Codes.{unless, kept}
+use Rattle.units.specs.declared.diff.Entry.{Entry}
+use Rattle.units.specs.Limits.{PEERS, EDITS, fits}
+use Rattle.units.specs.Lists.{every}
+use Rattle.units.specs.Delta.{insertable}
+use Rattle.units.specs.Codes.{unless, kept}
 use Rattle.history.specs.Edit.{Version, Edit, size, Held, History}
 use Rattle.history.specs.Version.{heldCount, named, closed}
 use Rattle.history.specs.Checkout.{unitsAt, checkout}

@@ -17,7 +17,7 @@ use Rattle.span.proofs.IdsLaws.{room-less}
 use Rattle.span.proofs.SpanLaws.{span-ok}
 use Rattle.span.proofs.UnitLaws.{part-ok, part-length, slice-units}
 use Rattle.span.proofs.Unique.{in-range}
-use Rattle.rope.specs.Change.{withState}
+use Rattle.units.specs.Change.{withState}
 use Rattle.history.specs.Edit.{Version, Held}
 use Rattle.history.specs.Checkout.{statusAt, unitBetween}
 use Rattle.history.specs.Checkout as C

@@ -17,8 +17,8 @@ use Rattle.span.proofs.IdsLaws.{inc-inc}
 use Rattle.span.proofs.Same.{sameId-true, sameId-refl}
 use Rattle.rope.specs.declared.change.Delete.{Delete}
 use Rattle.rope.specs.declared.change.Part.{Part}
-use Rattle.rope.specs.Place.{behind}
-use Rattle.rope.specs.Change.{firstShown, taken}
+use Rattle.units.specs.Place.{behind}
+use Rattle.units.specs.Change.{firstShown, taken}
 use Rattle.rope.specs.Pieces.{part, deleteCut, tookOf, deleteAfter}
 use Rattle.rope.proofs.Lists.{le-or}
 use Rattle.rope.proofs.Seeks.{behind-zero, behind-in, behind-vis, behind-inv, active-is}

@@ -19,7 +19,7 @@ use Rattle.span.specs.Ids.{UNKNOWN-PEER, incId, room, roomOf}
 use Rattle.span.specs.Status.{status}
 use Rattle.store.specs.Row.{bits32, bitOf, statusOf}
 use Rattle.store.specs.Limits.{EDITS}
-use Rattle.rope.specs.Lists.{some}
+use Rattle.units.specs.Lists.{some}
 use Rattle.history.specs.Edit.{Version, Range, Held}
 use Rattle.history.specs.Version.{countOf, below, inVersion}
 use Rattle.history.specs.Checkout.{range, inRange, inRanges, deletesIn, statusAt}

@@ -14,10 +14,10 @@ use Rattle.store.specs.Header.{count, room, spansOf}
 use Rattle.rope.specs.declared.diff.DiffAnswer.{DiffAnswer}
 use Rattle.rope.specs.declared.diff.DiffAnswer.the-variants as Diff
 use Rattle.rope.specs.declared.diff.EntryNumbers.{EntryNumbers}
-use Rattle.rope.specs.Limits.{EDITS, PEERS}
-use Rattle.rope.specs.Lists.{every, over}
-use Rattle.rope.specs.Codes.{unless}
-use Rattle.rope.specs.Delta.{entries}
+use Rattle.units.specs.Limits.{EDITS, PEERS}
+use Rattle.units.specs.Lists.{every, over}
+use Rattle.units.specs.Codes.{unless}
+use Rattle.units.specs.Delta.{entries}
 use Rattle.rope.specs.Edits.{WrittenIn}
 use Rattle.rope.specs.Columns.{diffRowsCode, diffNumber, column, columnOf, Diffed}
 use Rattle.rope.proofs.Keeps.{UnitsOk, units-ok}

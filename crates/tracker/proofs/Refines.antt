@@ -14,7 +14,7 @@ use Rattle.span.proofs.ForRope.{units-length, span-units, list-units, joined-is
 use Rattle.store.specs.Row.{rows, rowAt}
 use Rattle.store.specs.Limits.{UNITS}
 use Rattle.store.proofs.Laws.{length-rows}
-use Rattle.rope.specs.Change.{withState}
+use Rattle.units.specs.Change.{withState}
 use Rattle.rope.specs.Spans.{AllOk, Stored}
 use Rattle.rope.proofs.Rights.{row-drop, row-none}
 use Rattle.rope.proofs.Counts.{length-span}

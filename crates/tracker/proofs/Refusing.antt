@@ -16,12 +16,12 @@ use Rattle.span.specs.Chunk.{lenOf}
 use Rattle.span.specs.Units.{expand, join}
 use Rattle.store.specs.Row.{rows}
 use Rattle.store.specs.Header.{count, room, spansOf}
-use Rattle.rope.specs.Limits.{UNITS, EDITS, PEERS, fits}
-use Rattle.rope.specs.Store.{wellFormed}
-use Rattle.rope.specs.Codes.{unless}
-use Rattle.rope.specs.Place.{shown, insertUnits}
+use Rattle.units.specs.Limits.{UNITS, EDITS, PEERS, fits}
+use Rattle.units.specs.Store.{wellFormed}
+use Rattle.units.specs.Codes.{unless}
+use Rattle.units.specs.Place.{shown, insertUnits}
 use Rattle.rope.specs.Spans.{Fresh}
-use Rattle.rope.specs.Change.{deleteUnits, taken}
+use Rattle.units.specs.Change.{deleteUnits, taken}
 use Rattle.rope.proofs.Entering.{rows-are, state-few}
 use Rattle.rope.proofs.States.{part}
 use Rattle.history.specs.Edit.{Version, Act, Insert, Delete, Edit, Range, Held, History}

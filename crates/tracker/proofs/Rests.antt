@@ -11,10 +11,10 @@ use Rattle.span.specs.declared.span.FugueSpan.{FugueSpan}
 use Rattle.span.specs.Span.{lenSpan}
 use Rattle.span.specs.Units.{expand, join}
 use Rattle.rope.specs.declared.change.Delete.{Delete}
-use Rattle.rope.specs.Limits.{UNITS, EDITS, fits}
-use Rattle.rope.specs.Place.{shown, insertUnits}
-use Rattle.rope.specs.Change.{deleteUnits}
-use Rattle.rope.specs.Codes.{unless}
+use Rattle.units.specs.Limits.{UNITS, EDITS, fits}
+use Rattle.units.specs.Place.{shown, insertUnits}
+use Rattle.units.specs.Change.{deleteUnits}
+use Rattle.units.specs.Codes.{unless}
 use Rattle.store.specs.Row.{rows}
 use Rattle.tracker.specs.Rows.{pairs, held}
 use Rattle.tracker.specs.Looks.{unitSeen, seen}

@@ -12,9 +12,9 @@ use Rattle.span.specs.Span.{lenSpan}
 use Rattle.span.specs.Units.{unitsOf, join}
 use Rattle.span.proofs.ForRope.{units-length}
 use Rattle.rope.specs.declared.change.Delete.{Delete}
-use Rattle.rope.specs.Limits.{fits}
-use Rattle.rope.specs.Place.{originLeft, originRight, withOrigins, insertUnits}
-use Rattle.rope.specs.Change.{deleteUnits}
+use Rattle.units.specs.Limits.{fits}
+use Rattle.units.specs.Place.{originLeft, originRight, withOrigins, insertUnits}
+use Rattle.units.specs.Change.{deleteUnits}
 use Rattle.fugue.proofs.Splices.{insert-splice, splice-length}
 use Rattle.history.specs.Edit.{Edit, Delete as Deleting}
 use Rattle.history.specs.Arrive.{actList, actTook}

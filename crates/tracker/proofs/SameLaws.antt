@@ -24,7 +24,7 @@ use Rattle.span.proofs.Unique.{in-range}
 use Rattle.span.proofs.Views.{View, of-text, of-unknown, of-anchor, view, len-text, part-text, part-unknown, part-anchor}
 use Rattle.rope.specs.declared.find.Offset.{Offset}
 use Rattle.rope.specs.declared.find.Offset.the-variants as Off
-use Rattle.rope.specs.Lists.{some}
+use Rattle.units.specs.Lists.{some}
 use Rattle.rope.specs.Spans.{offsetOf}
 use Rattle.rope.proofs.Lists.{and-true, or-left, or-right, or-both}
 use Rattle.rope.proofs.Offsets.{off-unit, unit-off}

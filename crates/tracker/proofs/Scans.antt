@@ -20,9 +20,9 @@ use Rattle.span.proofs.SpanLaws.{span-ok}
 use Rattle.span.proofs.Views.{len-pos}
 use Rattle.span.proofs.UnitLaws.{unit-id}
 use Rattle.span.proofs.ForRope.{expand-append}
-use Rattle.rope.specs.declared.place.Verdict.{Verdict}
-use Rattle.rope.specs.declared.place.Verdict.the-variants.{Stop, Clear, Keep}
-use Rattle.rope.specs.Place.{memId, hasOl, parentRight, posOf, prPos, byPos, sibling, verdict, isStop, after, run, upTo, firstPast, scanPlace, Distinct}
+use Rattle.units.specs.declared.place.Verdict.{Verdict}
+use Rattle.units.specs.declared.place.Verdict.the-variants.{Stop, Clear, Keep}
+use Rattle.units.specs.Place.{memId, hasOl, parentRight, posOf, prPos, byPos, sibling, verdict, isStop, after, run, upTo, firstPast, scanPlace, Distinct}
 use Rattle.rope.specs.Spans.{AllOk}
 use Rattle.rope.proofs.Lists.{or-false, mem-append}
 use Rattle.rope.proofs.Scanned.{futures, up-to, span-run}

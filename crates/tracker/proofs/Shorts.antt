@@ -7,9 +7,9 @@ use native.Mathlib.Omega.{arith}
 use lib.Dec.{eqb, leb}
 use lib.ListN.{length}
 use borrow.Author.Tests.{eqb-true, leb-true, leb-false, ne-eqb}
-use Rattle.rope.specs.Limits.{PEERS}
-use Rattle.rope.specs.Codes.{unless, kept}
-use Rattle.rope.specs.Lists.{every}
+use Rattle.units.specs.Limits.{PEERS}
+use Rattle.units.specs.Codes.{unless, kept}
+use Rattle.units.specs.Lists.{every}
 use Rattle.store.specs.Header.{room}
 use Rattle.history.specs.Edit.{Version, Held, History}
 use Rattle.history.specs.Version.{named, closed, versionCode, rising, above, isHeld}

@@ -15,7 +15,7 @@ use Rattle.span.proofs.Views.{len-pos}
 use Rattle.span.proofs.UnitLaws.{run-eq, run-joins, run-of, join-of, join-to}
 use Rattle.span.proofs.Unique.{AllUnits, join-expand}
 use Rattle.span.proofs.ForRope.{units-length}
-use Rattle.rope.specs.Change.{withState}
+use Rattle.units.specs.Change.{withState}
 use Rattle.history.specs.Edit.{Version, Held}
 use Rattle.history.specs.Checkout.{unitAt, unitBetween}
 use Rattle.tracker.specs.Looks.{unitSeen, seen}

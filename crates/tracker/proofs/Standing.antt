@@ -10,7 +10,7 @@ use Rattle.span.specs.declared.span.FugueSpan.{FugueSpan}
 use Rattle.span.specs.Units.{expand, join}
 use Rattle.store.specs.Row.{rows}
 use Rattle.store.specs.Header.{count, room, spansOf}
-use Rattle.rope.specs.Store.{wellFormed}
+use Rattle.units.specs.Store.{wellFormed}
 use Rattle.rope.specs.Spans.{Stored}
 use Rattle.rope.specs.Edits.{WrittenIn}
 use Rattle.rope.proofs.Entering.{state-head, state-formed, state-fits, end-fits, lent, lent-long, lent-rows, lent-back}

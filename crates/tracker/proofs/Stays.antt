@@ -17,9 +17,9 @@ use Rattle.span.proofs.IdsLaws.{inc-zero, room-less}
 use Rattle.span.proofs.SpanLaws.{span-ok}
 use Rattle.span.proofs.Views.{len-pos}
 use Rattle.store.specs.Row.{rows, rowAt}
-use Rattle.rope.specs.declared.place.Verdict.{Verdict}
-use Rattle.rope.specs.declared.place.Verdict.the-variants.{Stop, Keep}
-use Rattle.rope.specs.Place.{memId, sibling, verdict, isStop, after}
+use Rattle.units.specs.declared.place.Verdict.{Verdict}
+use Rattle.units.specs.declared.place.Verdict.the-variants.{Stop, Keep}
+use Rattle.units.specs.Place.{memId, sibling, verdict, isStop, after}
 use Rattle.rope.specs.Spans.{AllOk}
 use Rattle.rope.proofs.Rights.{row-drop, row-take, row-none}
 use Rattle.history.specs.Edit.{Version, Held}

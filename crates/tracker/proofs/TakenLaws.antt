@@ -22,8 +22,8 @@ use Rattle.store.specs.Row.{rows}
 use Rattle.store.proofs.Laws.{length-rows}
 use Rattle.rope.specs.declared.find.Offset.{Offset}
 use Rattle.rope.specs.declared.find.Offset.the-variants as Off
-use Rattle.rope.specs.Lists.{every}
-use Rattle.rope.specs.Place.{memId}
+use Rattle.units.specs.Lists.{every}
+use Rattle.units.specs.Place.{memId}
 use Rattle.rope.specs.Spans.{offsetOf, isAt, covered, AllOk, Stored}
 use Rattle.rope.proofs.Lists.{mem-append}
 use Rattle.rope.proofs.Offsets.{unit-off, covers-units}

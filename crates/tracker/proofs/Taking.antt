@@ -19,9 +19,9 @@ use Rattle.span.proofs.UnitLaws.{room-join}
 use Rattle.store.specs.Row.{rows}
 use Rattle.rope.specs.declared.change.Delete.{Delete}
 use Rattle.rope.specs.declared.change.Part.{Part}
-use Rattle.rope.specs.Place.{behind}
+use Rattle.units.specs.Place.{behind}
 use Rattle.rope.specs.Spans.{Stored}
-use Rattle.rope.specs.Change.{firstShown, taken}
+use Rattle.units.specs.Change.{firstShown, taken}
 use Rattle.rope.specs.Pieces.{deleteCut, tookOf, deleteAfter, CanDelete}
 use Rattle.rope.proofs.Offsets.{unit-status}
 use Rattle.rope.proofs.Seeks.{behind-zero, behind-in, behind-vis, behind-inv, active-is}

@@ -19,8 +19,8 @@ use Rattle.span.proofs.IdsLaws.{roomy, inc-zero, inc-inc}
 use Rattle.span.proofs.ListLaws.{tab-from}
 use Rattle.span.proofs.Same.{sameId-true, sameId-refl}
 use Rattle.span.proofs.UnitLaws.{room-join}
-use Rattle.rope.specs.Lists.{some, keepIf}
-use Rattle.rope.specs.Place.{memId, Distinct}
+use Rattle.units.specs.Lists.{some, keepIf}
+use Rattle.units.specs.Place.{memId, Distinct}
 use Rattle.rope.proofs.Lists.{and-true, or-left, or-right, or-false}
 use Rattle.history.specs.Edit.{Range}
 use Rattle.history.specs.Version.{number}

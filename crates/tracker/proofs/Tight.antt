@@ -21,8 +21,8 @@ use Rattle.span.proofs.Unique.{in-range}
 use Rattle.span.proofs.ForRope.{units-length, expand-append}
 use Rattle.store.specs.Row.{rows, rowAt}
 use Rattle.store.proofs.Laws.{length-rows}
-use Rattle.rope.specs.Change.{withState}
-use Rattle.rope.specs.Place.{memId, front, behind, lastId, firstPast, verdict, prPos, scanPlace, withOrigins, originLeft, originRight, insertUnits, Distinct}
+use Rattle.units.specs.Change.{withState}
+use Rattle.units.specs.Place.{memId, front, behind, lastId, firstPast, verdict, prPos, scanPlace, withOrigins, originLeft, originRight, insertUnits, Distinct}
 use Rattle.rope.specs.Spans.{Stored, AllOk}
 use Rattle.rope.specs.Spans as Spans
 use Rattle.rope.proofs.Lists.{or-left, or-right, mem-append, distinct-right}

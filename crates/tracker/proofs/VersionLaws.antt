@@ -12,7 +12,7 @@ use lib.Seq.{drop-drop}
 use Rattle.span.specs.declared.status.Counter.{Counter}
 use Rattle.span.specs.declared.status.Counter.the-variants as Ctr
 use Rattle.span.specs.Status.{counterOf}
-use Rattle.rope.specs.Lists.{every}
+use Rattle.units.specs.Lists.{every}
 use Rattle.history.specs.Edit.{Count, Version}
 use Rattle.history.specs.Version.{number, countOf, above, rising, within}
 use Rattle.tracker.specs.declared.row.Pair.{Pair}

@@ -16,11 +16,11 @@ use Rattle.span.specs.Units.{expand, join}
 use Rattle.store.specs.Row.{rows}
 use Rattle.store.specs.Header.{count, room, spansOf}
 use Rattle.rope.specs.declared.change.Delete.{Delete}
-use Rattle.rope.specs.Limits.{UNITS, EDITS, fits}
-use Rattle.rope.specs.Place.{shown, insertUnits}
-use Rattle.rope.specs.Change.{deleteUnits, taken}
-use Rattle.rope.specs.Store.{isState}
-use Rattle.rope.specs.Codes.{unless, insertCode}
+use Rattle.units.specs.Limits.{UNITS, EDITS, fits}
+use Rattle.units.specs.Place.{shown, insertUnits}
+use Rattle.units.specs.Change.{deleteUnits, taken}
+use Rattle.units.specs.Store.{isState}
+use Rattle.units.specs.Codes.{unless, insertCode}
 use Rattle.rope.specs.Spans.{Fresh}
 use Rattle.rope.specs.Edits.{WrittenIn}
 use Rattle.history.specs.Edit.{Edit, Range, Held}

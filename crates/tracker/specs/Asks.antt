@@ -7,9 +7,9 @@ use Rattle.rope.specs.declared.query.LenAnswer.{LenAnswer}
 use Rattle.rope.specs.declared.query.LenAnswer.the-variants as Len
 use Rattle.rope.specs.declared.query.RealAnswer.{RealAnswer}
 use Rattle.rope.specs.declared.query.RealAnswer.the-variants as Real
-use Rattle.rope.specs.Place.{shown}
-use Rattle.rope.specs.Query.{realSpanAt}
-use Rattle.rope.specs.Codes.{unless}
+use Rattle.units.specs.Place.{shown}
+use Rattle.units.specs.Query.{realSpanAt}
+use Rattle.units.specs.Codes.{unless}
 use Rattle.rope.specs.Entries.{realSaid}
 use Rattle.history.specs.Codes.{onUnits, askCode}
 use Rattle.tracker.specs.Rows.{targetRoom, historyIn, isHistory}

@@ -8,9 +8,9 @@ use Rattle.span.specs.declared.span.FugueSpan.{FugueSpan}
 use Rattle.span.specs.Units.{expand, join}
 use Rattle.store.specs.Header.{room, spansOf}
 use Rattle.rope.specs.declared.diff.DiffAnswer.{DiffAnswer}
-use Rattle.rope.specs.Limits.{fits}
-use Rattle.rope.specs.Store.{wellFormed}
-use Rattle.rope.specs.Codes.{unless}
+use Rattle.units.specs.Limits.{fits}
+use Rattle.units.specs.Store.{wellFormed}
+use Rattle.units.specs.Codes.{unless}
 use Rattle.rope.specs.Columns.{diffRowsCode, diffNumber, Diffed}
 use Rattle.history.specs.Edit.{Version, Held, History}
 use Rattle.history.specs.Version.{named, closed}

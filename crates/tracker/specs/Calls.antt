@@ -7,8 +7,8 @@ use lib.ListN.{length}
 use Rattle.span.specs.Units.{expand}
 use Rattle.store.specs.Row.{bits32}
 use Rattle.store.specs.Header.{room, spansOf}
-use Rattle.rope.specs.declared.diff.Entry.{Entry}
-use Rattle.rope.specs.Codes.{unless}
+use Rattle.units.specs.declared.diff.Entry.{Entry}
+use Rattle.units.specs.Codes.{unless}
 use Rattle.fugue.specs.Tree.{walk, sortId}
 use Rattle.history.specs.Edit.{Count, Version, Act, Insert, Delete, Edit, History}
 use Rattle.history.specs.Checkout.{unitsAt}

@@ -10,8 +10,8 @@ use mir.Val.{toZ}
 use Rattle.span.specs.Units.{expand, join}
 use Rattle.store.specs.Header.{count, room, spansOf}
 use Rattle.store.specs.Limits.{ROWS, PEERS, EDITS}
-use Rattle.rope.specs.Codes.{unless, kept}
-use Rattle.rope.specs.Store.{isState}
+use Rattle.units.specs.Codes.{unless, kept}
+use Rattle.units.specs.Store.{isState}
 use Rattle.rope.specs.Edits.{headRest, pastRows}
 use Rattle.history.specs.Edit.{Count, Version, Edit, History}
 use Rattle.history.specs.Checkout.{unitsAt, checkout}

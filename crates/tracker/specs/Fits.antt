@@ -12,8 +12,8 @@ use Rattle.span.specs.declared.span.FugueSpan.{FugueSpan}
 use Rattle.span.specs.Span.{lenSpan, spanCode, joinsSpan}
 use Rattle.span.specs.Units.{unitAt, unitsOf, expand, join}
 use Rattle.store.specs.Row.{rows}
-use Rattle.rope.specs.declared.place.Verdict.{Verdict}
-use Rattle.rope.specs.Place.{isStop, after, verdict, prPos, withOrigins, front, behind, shown}
+use Rattle.units.specs.declared.place.Verdict.{Verdict}
+use Rattle.units.specs.Place.{isStop, after, verdict, prPos, withOrigins, front, behind, shown}
 use Rattle.rope.specs.Spans.{Fresh}
 use Rattle.history.specs.Edit.{Version, Held}
 use Rattle.history.specs.Version.{inVersion}

@@ -3,7 +3,7 @@ use mathlib.Core.Bool.{Bool, _||_}
 use mathlib.Core.List.{List}
 use lib.IntN.{pos, _+ℤ_}
 use lib.Signed.{ltZ}
-use Rattle.rope.specs.Lists.{every}
+use Rattle.units.specs.Lists.{every}
 use Rattle.history.specs.Edit.{Version, Edit, Held, size}
 use Rattle.history.specs.Version.{countOf, closedFor}
 

@@ -8,7 +8,7 @@ use Rattle.span.specs.declared.ids.Id.{Id}
 use Rattle.span.specs.declared.span.FugueSpan.{FugueSpan}
 use Rattle.span.specs.Span.{lenSpan, spanCode, newSpan}
 use Rattle.span.specs.Units.{unitAt}
-use Rattle.rope.specs.Lists.{every, some}
+use Rattle.units.specs.Lists.{every, some}
 use Rattle.history.specs.Edit.{Act, Insert, Delete}
 use Rattle.history.specs.Arrive.{start}
 use Rattle.history.specs.Valid.{actUnits, sameUnit}

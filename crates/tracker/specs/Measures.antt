@@ -10,8 +10,8 @@ use Rattle.span.specs.declared.span.FugueSpan.{FugueSpan}
 use Rattle.span.specs.declared.span.DiffStatus.{DiffStatus}
 use Rattle.span.specs.declared.span.DiffStatus.the-variants.{NotChanged, Created, Deleted}
 use Rattle.span.specs.Span.{activeLen, diffOf}
-use Rattle.rope.specs.Lists.{every}
-use Rattle.rope.specs.Delta.{isReal, insertable, entries}
+use Rattle.units.specs.Lists.{every}
+use Rattle.units.specs.Delta.{isReal, insertable, entries}
 use Rattle.tracker.specs.declared.measure.Measure.{Measure}
 
 abbrev pub nothing : Measure

@@ -6,7 +6,7 @@ use mathlib.Core.List.{List}
 use lib.Dec.{leb}
 use lib.ListN.{length, drop}
 use Rattle.store.specs.Header.{room}
-use Rattle.rope.specs.Codes.{unless, placeholderCode}
+use Rattle.units.specs.Codes.{unless, placeholderCode}
 use Rattle.rope.specs.Edits.{pastRows}
 use Rattle.history.specs.Arrive.{start}
 use Rattle.history.specs.Codes.{orElse, stored}

@@ -8,7 +8,7 @@ use Rattle.span.specs.declared.ids.Id.{Id}
 use Rattle.span.specs.declared.ids.OptId.the-variants.{At}
 use Rattle.span.specs.Ids.{roomOpt}
 use Rattle.span.specs.Status.{eqZ}
-use Rattle.rope.specs.Codes.{unless}
+use Rattle.units.specs.Codes.{unless}
 use Rattle.history.specs.Edit.{Version, Act, sizeOf, Held}
 use Rattle.history.specs.Version.{countOf, named, closed}
 use Rattle.history.specs.Valid.{actFormed, actIds}

@@ -10,7 +10,7 @@ use Rattle.span.specs.Status.{newStatus}
 use Rattle.span.specs.Units.{expand, Joined, join}
 use Rattle.store.specs.Row.{rows}
 use Rattle.store.specs.Limits.{UNITS}
-use Rattle.rope.specs.Change.{withState}
+use Rattle.units.specs.Change.{withState}
 use Rattle.history.specs.Edit.{Version, Held}
 use Rattle.tracker.specs.Looks.{seen}
 

@@ -19,7 +19,7 @@ use Rattle.span.specs.Chunk.{chunk}
 use Rattle.store.specs.Row.{bits32, idOf, lowOf, bitOf, u64At, u32At}
 use Rattle.store.specs.Header.{room, spansOf}
 use Rattle.store.specs.Limits.{ROWS, EDITS, PEERS}
-use Rattle.rope.specs.Store.{isState}
+use Rattle.units.specs.Store.{isState}
 use Rattle.history.specs.Edit.{Count, Version, Act, Insert, Delete, Edit, Range, Held, History}
 use Rattle.history.specs.Checkout.{range}
 use Rattle.history.specs.Valid.{valid}

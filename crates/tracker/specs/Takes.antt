@@ -8,7 +8,7 @@ use Rattle.span.specs.declared.ids.Id.{Id}
 use Rattle.span.specs.Ids.{roomOf, incId}
 use Rattle.span.specs.declared.span.FugueSpan.{FugueSpan}
 use Rattle.rope.specs.declared.change.Delete.{Delete}
-use Rattle.rope.specs.Change.{taken}
+use Rattle.units.specs.Change.{taken}
 use Rattle.history.specs.Checkout.{rangesOf}
 use Rattle.tracker.specs.declared.range.OptTarget.{OptTarget}
 use Rattle.tracker.specs.declared.range.OptTarget.the-variants.{Nothing, Is}

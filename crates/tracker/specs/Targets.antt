@@ -8,7 +8,7 @@ use lib.ListN.{length, take, drop}
 use Rattle.span.specs.declared.span.FugueSpan.{FugueSpan}
 use Rattle.span.specs.Ids.{roomOf, incId, sameId}
 use Rattle.rope.specs.declared.change.Delete.{Delete}
-use Rattle.rope.specs.Change.{taken}
+use Rattle.units.specs.Change.{taken}
 use Rattle.rope.specs.Pieces.{deleteCut, deleteAfter}
 use Rattle.history.specs.Edit.{Range}
 use Rattle.history.specs.Checkout.{range, rangesOf}

@@ -7,7 +7,7 @@ ghost use lib.ListN.{length};
 ghost use Rattle.span.specs.Units.{expand};
 ghost use Rattle.store.specs.Row.{rows};
 ghost use Rattle.store.specs.Limits.{ROWS, EDITS};
-ghost use Rattle.rope.specs.Lists.{every};
+ghost use Rattle.units.specs.Lists.{every};
 ghost use Rattle.rope.specs.Spans.{Stored};
 ghost use Rattle.history.specs.Arrive.{start};
 ghost use Rattle.history.specs.Valid.{editsFit, editUnits, sameUnits, targetsFit};

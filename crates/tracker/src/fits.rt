@@ -10,7 +10,7 @@ ghost use lib.ListN.{length, drop};
 ghost use Rattle.span.specs.Ids.{roomOf};
 ghost use Rattle.span.specs.Units.{expand, join};
 ghost use Rattle.store.specs.Row.{rows};
-ghost use Rattle.rope.specs.Place.{shown, verdict, prPos, insertUnits};
+ghost use Rattle.units.specs.Place.{shown, verdict, prPos, insertUnits};
 ghost use Rattle.rope.specs.Spans.{AllOk, Held};
 ghost use Rattle.history.specs.Version.{inVersion};
 ghost use Rattle.tracker.specs.Rows.{pairs, held};
@@ -21,12 +21,12 @@ use crate::seen::next_piece;
 use rope::check::units;
 use rope::find::has;
 use rope::insert::with_origins;
-use rope::place::Verdict;
 use rope::place::judge;
 use rope::place::parent_pos;
 use span::ids::Id;
 use span::ids::OptId;
 use span::span::FugueSpan;
+use units::place::Verdict;
 
 // A cursor: so many units of a piece are before it; row and from are the place behind the piece.
 pub struct Left {

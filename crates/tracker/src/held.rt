@@ -6,7 +6,7 @@ ghost use mathlib.Core.List.{List, []};
 ghost use Prim.Native.Nat.{ℕ, _+_, _*_, _≤_, _<_};
 ghost use lib.Dec.{leb, eqb};
 ghost use lib.ListN.{length, drop};
-ghost use Rattle.rope.specs.Lists.{every};
+ghost use Rattle.units.specs.Lists.{every};
 ghost use Rattle.store.specs.Limits.{PEERS, EDITS};
 ghost use Rattle.store.specs.Row.{bits32};
 ghost use Rattle.history.specs.Edit.{size};

@@ -6,7 +6,7 @@ ghost use lib.ListN.{length};
 ghost use Rattle.span.specs.Span.{lenSpan};
 ghost use Rattle.span.specs.Units.{expand, join};
 ghost use Rattle.store.specs.Row.{rows};
-ghost use Rattle.rope.specs.Delta.{isReal};
+ghost use Rattle.units.specs.Delta.{isReal};
 ghost use Rattle.tracker.specs.Rows.{pairs, held};
 ghost use Rattle.tracker.specs.Looks.{Sees, seen};
 ghost use Rattle.tracker.specs.Measures.{changed, measured, measuredAll, Measures};

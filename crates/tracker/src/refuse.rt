@@ -6,7 +6,7 @@ ghost use lib.ListN.{length};
 ghost use Rattle.span.specs.Span.{newSpan, lenSpan};
 ghost use Rattle.span.specs.Units.{expand};
 ghost use Rattle.store.specs.Row.{rows};
-ghost use Rattle.rope.specs.Place.{shown};
+ghost use Rattle.units.specs.Place.{shown};
 ghost use Rattle.rope.specs.Pieces.{CanDelete};
 ghost use Rattle.tracker.specs.Rows.{used};
 ghost use Rattle.tracker.specs.Targets.{targetsOf};

@@ -5,7 +5,7 @@ ghost use lib.ListN.{length};
 ghost use Rattle.span.specs.Span.{newSpan};
 ghost use Rattle.span.specs.Units.{expand, join};
 ghost use Rattle.store.specs.Header.{spansOf};
-ghost use Rattle.rope.specs.Change.{deleteUnits};
+ghost use Rattle.units.specs.Change.{deleteUnits};
 ghost use Rattle.rope.specs.Edits.{WrittenIn, insertList};
 ghost use Rattle.tracker.specs.Rows.{pairsIn, EDIT-BYTES};
 ghost use Rattle.tracker.specs.Targets.{targetsOf};

@@ -9,7 +9,7 @@ ghost use Rattle.span.specs.Span.{spanCode, lenSpan};
 ghost use Rattle.span.specs.Units.{expand};
 ghost use Rattle.store.specs.Row.{rows};
 ghost use Rattle.store.specs.Limits.{ROWS};
-ghost use Rattle.rope.specs.Lists.{every};
+ghost use Rattle.units.specs.Lists.{every};
 ghost use Rattle.rope.specs.Spans.{AllOk, Stored};
 ghost use Rattle.history.specs.Valid.{total, actLength, targetsFit};
 ghost use Rattle.tracker.specs.Rows.{toAct, toRange, ranges, tookIn, editIn, held, used};

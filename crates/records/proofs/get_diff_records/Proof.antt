@@ -53,7 +53,7 @@ use denote.Triple.Clauses.{ensured, lasts}
 use Rattle.rope.specs.declared.diff.EntryNumbers.{EntryNumbers}
 use Rattle.rope.specs.declared.diff.DiffAnswer.{DiffAnswer}
 use Rattle.records.specs.declared.Spot.{Spot}
-use Rattle.rope.specs.Store.{spansOf}
+use Rattle.units.specs.Store.{spansOf}
 use Rattle.rope.specs.Columns.{getDiffCode}
 use Rattle.records.specs.Records.{startBy, On, Stepped, answerOf, recordsAfter}
 use Rattle.records.proofs.Stands.{Standing, stand-start, stand-on, stand-in, stand-next, stand-less, stand-end}

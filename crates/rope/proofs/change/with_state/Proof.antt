@@ -1,5 +1,5 @@
 use borrow.Author.Needs.{needs}
-use Rattle.rope.specs.Change.{withState}
+use Rattle.units.specs.Change.{withState}
 use Rattle.rope.proofs.change.with_state.Statement.{statement}
 use Rattle.rope.proofs.change.with_state.Tie as tie
 

@@ -1,6 +1,6 @@
 use mathlib.Core.Path.{_∙_}
 use Rattle.rope.proofs.Counts.{named-at}
-use Rattle.rope.specs.Store.{named}
+use Rattle.units.specs.Store.{named}
 use borrow.Author.Needs.{needs}
 use Rattle.rope.proofs.check.is_named.Statement.{statement}
 use Rattle.rope.proofs.check.is_named.Tie as tie

@@ -8,7 +8,7 @@ use native.Mathlib.Omega.{arith}
 use Prim.Native.Nat.{_+_, _-_, _≤_}
 use mathlib.Core.Bool.{true, false}
 use mathlib.Core.Path.{_≡_, refl, sym, ap, _∙_}
-use Rattle.rope.specs.Store.{touching, joinedRows}
+use Rattle.units.specs.Store.{touching, joinedRows}
 use Rattle.rope.proofs.Checks.{join-turn, join-done}
 use Rattle.rope.proofs.check.joined.Statement.{statement}
 use Rattle.rope.proofs.check.joined.Tie as tie

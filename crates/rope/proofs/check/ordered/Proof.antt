@@ -4,7 +4,7 @@ use mathlib.Core.Bool.{Bool, _&&_}
 use lib.ListN.{length, replicate, length-replicate}
 use Rattle.span.specs.Units.{expand}
 use Rattle.store.specs.Row.{rows}
-use Rattle.rope.specs.Store.{originsNamed}
+use Rattle.units.specs.Store.{originsNamed}
 use Rattle.rope.proofs.Orders.{sorted-apart}
 use borrow.Author.Needs.{needs}
 use Rattle.rope.proofs.check.ordered.Statement.{statement}

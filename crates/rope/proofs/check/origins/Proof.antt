@@ -7,7 +7,7 @@ use borrow.Author.Tests.{not-true, not-false}
 use Rattle.span.specs.declared.span.FugueSpan.{FugueSpan}
 use Rattle.span.specs.Units.{expand}
 use Rattle.store.specs.Row.{rows}
-use Rattle.rope.specs.Store.{named, originsNamed}
+use Rattle.units.specs.Store.{named, originsNamed}
 use Rattle.rope.proofs.Counts.{origin-turn, origin-done}
 use Rattle.rope.proofs.check.origins.Statement.{statement}
 use Rattle.rope.proofs.check.origins.Tie as tie

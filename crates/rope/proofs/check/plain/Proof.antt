@@ -3,7 +3,7 @@ use mathlib.Core.Bool.{Bool, _&&_}
 use borrow.Author.Tests.{not-true, not-false}
 use Rattle.span.specs.Units.{expand}
 use Rattle.store.specs.Row.{rows}
-use Rattle.rope.specs.Store.{originsNamed}
+use Rattle.units.specs.Store.{originsNamed}
 use borrow.Author.Needs.{needs}
 use Rattle.rope.proofs.check.plain.Statement.{statement}
 use Rattle.rope.proofs.check.plain.Tie as tie

@@ -1,6 +1,6 @@
 use borrow.Author.Needs.{needs}
 use Rattle.rope.specs.Spans.{clearSpan}
-use Rattle.rope.specs.Change.{withState}
+use Rattle.units.specs.Change.{withState}
 use Rattle.rope.proofs.clear.cleared.Statement.{statement}
 use Rattle.rope.proofs.clear.cleared.Tie as tie
 

@@ -1,4 +1,4 @@
-use Rattle.rope.specs.Place.{shown}
+use Rattle.units.specs.Place.{shown}
 use Rattle.store.specs.Row.{rows}
 use Rattle.span.specs.Units.{expand}
 use Rattle.span.specs.Ids.{roomOpt}

@@ -5,8 +5,8 @@ use native.Mathlib.Omega.{arith}
 use lib.ListN.{drop}
 use borrow.Author.Tests.{not-true, not-false}
 use Rattle.store.specs.Row.{rows}
-use Rattle.rope.specs.Lists.{every}
-use Rattle.rope.specs.Delta.{insertable}
+use Rattle.units.specs.Lists.{every}
+use Rattle.units.specs.Delta.{insertable}
 use Rattle.rope.proofs.Diffs.{reals-turn, reals-done}
 use Rattle.rope.proofs.diff.all_real.Statement.{statement}
 use Rattle.rope.proofs.diff.all_real.Tie as tie

@@ -2,7 +2,7 @@ use Prim.Native.Nat.{ℕ}
 use mathlib.Core.Path.{sym, ap, _∙_}
 use Rattle.span.specs.declared.span.DiffStatus.the-variants.{NotChanged, Created, Deleted}
 use Rattle.rope.specs.declared.diff.Change.the-variants.{Is}
-use Rattle.rope.specs.Delta.{Delete}
+use Rattle.units.specs.declared.diff.Entry.the-variants.{Delete}
 use Rattle.rope.proofs.Diffs.{change-by}
 use borrow.Author.Needs.{needs}
 use Rattle.rope.proofs.diff.change_of.Statement.{statement}

@@ -2,7 +2,7 @@ use lib.ListN.{length, drop}
 use native.Mathlib.Omega.{arith}
 use mathlib.Core.Path.{_≡_, refl, sym, _∙_}
 use Rattle.store.specs.Row.{rows}
-use Rattle.rope.specs.Delta.{entriesFrom}
+use Rattle.units.specs.Delta.{entriesFrom}
 use Rattle.rope.proofs.Diffs.{Going, going-start, going-next, going-less, going-few, going-end}
 use borrow.Author.Needs.{needs}
 use Rattle.rope.proofs.diff.count_entries.Statement.{statement}

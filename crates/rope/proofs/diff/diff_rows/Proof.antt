@@ -3,7 +3,7 @@ use mathlib.Core.Path.{_≡_, sym, _∙_}
 use lib.ListN.{length}
 use Rattle.store.specs.Row.{rows}
 use Rattle.rope.specs.Columns.{least}
-use Rattle.rope.specs.Delta.{entries}
+use Rattle.units.specs.Delta.{entries}
 use native.Mathlib.Omega.{arith}
 use borrow.Author.Tests.{not-true, not-false}
 use Rattle.rope.proofs.Fills.{hold-least, rows-code-real, rows-code-full, rows-code-done, diffed-refused, diffed-done}

@@ -1,4 +1,4 @@
-use Rattle.rope.specs.Delta.{insertOfSpan}
+use Rattle.units.specs.Delta.{insertOfSpan}
 use borrow.Author.Needs.{needs}
 use Rattle.rope.proofs.diff.insert_of.Statement.{statement}
 use Rattle.rope.proofs.diff.insert_of.Tie as tie

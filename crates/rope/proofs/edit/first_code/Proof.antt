@@ -1,8 +1,8 @@
 use mathlib.Core.Bool.{true, false}
 use Prim.Native.Nat.{_+_, _<_, _≤_}
 use lib.ListN.{length}
-use Rattle.rope.specs.Codes.{holdsSome}
-use Rattle.rope.specs.Place.{shown}
+use Rattle.units.specs.Codes.{holdsSome}
+use Rattle.units.specs.Place.{shown}
 use Rattle.span.specs.Span.{lenSpan}
 use Rattle.span.specs.Units.{expand}
 use Rattle.rope.proofs.Admits.{holds-same, first-2, first-3, first-8, first-10, first-0}

@@ -2,7 +2,7 @@ use mir.Facts.{toZ-ofZ}
 use mir.Val.{SFits}
 use mir.Syntax.{w16, w32}
 use Rattle.span.specs.declared.status.Status.{Status}
-use Rattle.rope.specs.Change.{updateUnit}
+use Rattle.units.specs.Change.{updateUnit}
 use mathlib.Core.Path.{ap, _∙_}
 use lib.IntN.{_+ℤ_}
 use Rattle.rope.proofs.Exacts.{exact-by, times-changed}

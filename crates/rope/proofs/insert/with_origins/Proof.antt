@@ -1,4 +1,4 @@
-use Rattle.rope.specs.Place.{withOrigins}
+use Rattle.units.specs.Place.{withOrigins}
 use borrow.Author.Needs.{needs}
 use Rattle.rope.proofs.insert.with_origins.Statement.{statement}
 use Rattle.rope.proofs.insert.with_origins.Tie as tie

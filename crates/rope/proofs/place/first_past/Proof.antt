@@ -1,4 +1,4 @@
-use Rattle.rope.specs.Place.{firstPast}
+use Rattle.units.specs.Place.{firstPast}
 use Rattle.store.specs.Row.{rows, rowAt}
 use Rattle.span.specs.Units.{expand}
 use Rattle.span.specs.declared.span.FugueSpan.{FugueSpan}

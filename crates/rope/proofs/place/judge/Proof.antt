@@ -1,12 +1,12 @@
 use mathlib.Core.Path.{sym, _∙_}
 use borrow.Author.Tests.{eq-eqb, ne-eqb, lt-ltb, le-ltb}
-use Rattle.rope.specs.Place.{sibling, byPos}
+use Rattle.units.specs.Place.{sibling, byPos}
 use borrow.Author.Needs.{needs}
 use Rattle.rope.proofs.place.judge.Statement.{statement}
 use Rattle.rope.proofs.place.judge.Tie as tie
 use Rattle.rope.proofs.place.judge.Reads as reads
 use Rattle.rope.proofs.place.judge.Lts as lts
-use Rattle.rope.proofs.place.by_pos.Reads as by-pos-reads
+use Rattle.units.proofs.place.by_pos.Reads as by-pos-reads
 use Rattle.rope.proofs.place.parent_pos.Reads as parent-pos-reads
 use Rattle.span.proofs.ids.OptId.same.Reads as same-reads
 

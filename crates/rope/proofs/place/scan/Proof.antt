@@ -1,5 +1,5 @@
 use Rattle.rope.specs.Spans.{covered}
-use Rattle.rope.specs.Place.{memId, sibling, verdict}
+use Rattle.units.specs.Place.{memId, sibling, verdict}
 use Rattle.store.specs.Row.{rows, rowAt}
 use Rattle.span.specs.Units.{expand}
 use Rattle.span.specs.Ids.{sameOpt}
@@ -16,8 +16,8 @@ use Rattle.rope.proofs.place.scan.Statement.{statement}
 use Rattle.rope.proofs.place.scan.Tie as tie
 use Rattle.rope.proofs.place.scan.Reads as reads
 use Rattle.rope.proofs.place.scan.Lts as lts
-use Rattle.rope.proofs.place.Verdict.after.Reads as after-reads
-use Rattle.rope.proofs.place.Verdict.is_stop.Reads as is-stop-reads
+use Rattle.units.proofs.place.Verdict.after.Reads as after-reads
+use Rattle.units.proofs.place.Verdict.is_stop.Reads as is-stop-reads
 use Rattle.rope.proofs.find.covers.Reads as covers-reads
 use Rattle.rope.proofs.place.judge.Reads as judge-reads
 use Rattle.rope.proofs.place.moved.Reads as moved-reads

@@ -1,5 +1,5 @@
 use Rattle.rope.specs.Spans.{AllOk, runS, placeS, bordered, Border}
-use Rattle.rope.specs.Place.{firstPast, verdict, withOrigins, prPos}
+use Rattle.units.specs.Place.{firstPast, verdict, withOrigins, prPos}
 use Rattle.store.specs.Row.{rows, rowAt}
 use Rattle.span.specs.Units.{expand, join}
 use Rattle.span.specs.declared.span.FugueSpan.{FugueSpan}

@@ -1,11 +1,11 @@
 use mathlib.Core.Path.{_≡_, sym, ap, _∙_}
 use Rattle.store.specs.Row.{rows}
-use Rattle.rope.specs.Store.{spansOf}
+use Rattle.units.specs.Store.{spansOf}
 use Rattle.rope.proofs.States.{part, state-of, part-spans, answer-none, answer-state}
 use borrow.Author.Tests.{not-true, not-false}
 use mathlib.Core.List.{List}
 use Rattle.span.specs.declared.span.FugueSpan.{FugueSpan}
-use Rattle.rope.specs.Query.{realSpanAt}
+use Rattle.units.specs.Query.{realSpanAt}
 use Rattle.rope.specs.Entries.{realAnswer, realSaid}
 use borrow.Author.Needs.{needs}
 use Rattle.rope.proofs.query.active_real_span_at.Statement.{statement}

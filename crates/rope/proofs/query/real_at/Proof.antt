@@ -3,7 +3,7 @@ use Prim.Native.Nat.{_-_, _≤_}
 use native.Mathlib.Omega.{arith}
 use lib.ListN.{drop}
 use Rattle.store.specs.Row.{rows}
-use Rattle.rope.specs.Query.{realSpanAt}
+use Rattle.units.specs.Query.{realSpanAt}
 use Rattle.rope.specs.Entries.{realSaid}
 use Rattle.rope.proofs.Reals.{real-slice, real-found, real-next, real-done}
 use Rattle.rope.proofs.query.real_at.Statement.{statement}

@@ -3,7 +3,7 @@ use borrow.Author.Tests.{not-true, not-false}
 use mathlib.Core.List.{List}
 use Rattle.span.specs.declared.span.FugueSpan.{FugueSpan}
 use Rattle.span.specs.Units.{expand}
-use Rattle.rope.specs.Place.{shown}
+use Rattle.units.specs.Place.{shown}
 use Rattle.rope.specs.Entries.{lenAnswer}
 use Rattle.rope.proofs.States.{state-of, part-spans, answer-none, answer-state}
 use borrow.Author.Needs.{needs}

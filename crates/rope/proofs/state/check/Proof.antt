@@ -1,7 +1,7 @@
 use mathlib.Core.Path.{sym, ap, _∙_}
 use native.Mathlib.Omega.{arith}
 use Prim.Native.Nat.{_≤_, _<_}
-use Rattle.rope.specs.Store.{count, room, wellFormed}
+use Rattle.units.specs.Store.{count, room, wellFormed}
 use Rattle.rope.proofs.States.{part-spans, part-length, state-short, state-over, state-rows, room-most, room-long}
 use borrow.Author.Needs.{needs}
 use Rattle.rope.proofs.state.check.Statement.{statement}

@@ -5,7 +5,7 @@ use mathlib.Core.List.{List}
 use Rattle.span.specs.declared.span.FugueSpan.{FugueSpan}
 use Rattle.words.specs.Le.{put}
 use Rattle.store.specs.Row.{rowBytes}
-use Rattle.rope.specs.Query.{placeholder}
+use Rattle.units.specs.Query.{placeholder}
 use Rattle.rope.proofs.States.{with-none, with-many, with-full, with-done, room-head}
 use borrow.Author.Needs.{needs}
 use Rattle.rope.proofs.state.open_with.Statement.{statement}

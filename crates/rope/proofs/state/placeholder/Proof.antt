@@ -1,6 +1,6 @@
 use mathlib.Core.Path.{refl}
 use Rattle.span.specs.Span.{newSpan, realNew}
-use Rattle.rope.specs.Query.{placeholder}
+use Rattle.units.specs.Query.{placeholder}
 use Rattle.rope.proofs.state.placeholder.Statement.{statement}
 use Rattle.rope.proofs.state.placeholder.Tie as tie
 use Rattle.rope.proofs.state.placeholder.Reads as reads

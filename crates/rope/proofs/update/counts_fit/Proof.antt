@@ -1,4 +1,4 @@
-use Rattle.rope.specs.Codes.{countsFit}
+use Rattle.units.specs.Codes.{countsFit}
 use Rattle.store.specs.Row.{rows}
 use Rattle.span.specs.Units.{unitsOf, expand}
 use Rattle.span.specs.Span.{spanCode}

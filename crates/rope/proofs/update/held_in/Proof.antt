@@ -1,5 +1,5 @@
-use Rattle.rope.specs.Change.{inRange}
-use Rattle.rope.specs.Lists.{keepIf}
+use Rattle.units.specs.Change.{inRange}
+use Rattle.units.specs.Lists.{keepIf}
 use Rattle.span.specs.Span.{spanCode}
 use Rattle.span.specs.Units.{unitsOf}
 use Rattle.span.specs.declared.span.FugueSpan.{FugueSpan}

@@ -6,7 +6,7 @@ use Rattle.span.specs.declared.span.FugueSpan.{FugueSpan}
 use Rattle.span.specs.Ids.{roomOf}
 use Rattle.span.specs.Units.{expand}
 use Rattle.store.specs.Row.{rows, rowAt}
-use Rattle.rope.specs.Place.{verdict}
+use Rattle.units.specs.Place.{verdict}
 use Rattle.rope.specs.Spans.{AllOk}
 use Rattle.rope.proofs.Rights.{row-ok}
 use Rattle.rope.proofs.Turns.{not-true, not-false}
@@ -17,8 +17,8 @@ use Rattle.tracker.proofs.fits.stays.Statement.{statement}
 use Rattle.tracker.proofs.fits.stays.Tie as tie
 use Rattle.tracker.proofs.fits.stays.Reads as reads
 use Rattle.tracker.proofs.fits.stays.Lts as lts
-use Rattle.rope.proofs.place.Verdict.after.Reads as after-reads
-use Rattle.rope.proofs.place.Verdict.is_stop.Reads as is-stop-reads
+use Rattle.units.proofs.place.Verdict.after.Reads as after-reads
+use Rattle.units.proofs.place.Verdict.is_stop.Reads as is-stop-reads
 use Rattle.store.proofs.get_row.Reads as get-row-reads
 use Rattle.tracker.proofs.fits.future_at.Reads as future-at-reads
 use Rattle.tracker.proofs.fits.weigh.Reads as weigh-reads

@@ -6,7 +6,7 @@ use lib.ListN.{drop}
 use Rattle.span.specs.declared.span.FugueSpan.{FugueSpan}
 use Rattle.span.specs.Units.{expand}
 use Rattle.store.specs.Row.{rows}
-use Rattle.rope.specs.Place.{verdict}
+use Rattle.units.specs.Place.{verdict}
 use Rattle.rope.specs.Spans.{AllOk}
 use Rattle.rope.proofs.Whole.{rows-part, part-long, ok-drop}
 use Rattle.rope.proofs.WellFormed.{formed-of}

@@ -1,7 +1,7 @@
 use Rattle.tracker.proofs.VersionLaws.{every-turn, every-done}
 use Rattle.tracker.specs.Rows.{pairs, held}
 use Rattle.history.specs.Version.{isHeld}
-use Rattle.rope.specs.Lists.{every}
+use Rattle.units.specs.Lists.{every}
 use borrow.Author.Tests.{not-true, not-false}
 use lib.ListN.{drop}
 use mathlib.Core.Path.{_≡_, refl, sym, _∙_}

@@ -9,8 +9,8 @@ use Prim.Native.Nat.{ℕ}
 use lib.Dec.{leb}
 use lib.ListN.{length}
 use Rattle.span.specs.Units.{join}
-use Rattle.rope.specs.Limits.{fits}
-use Rattle.rope.specs.Change.{deleteUnits}
+use Rattle.units.specs.Limits.{fits}
+use Rattle.units.specs.Change.{deleteUnits}
 use native.Mathlib.Omega.{arith}
 use borrow.Author.Needs.{needs}
 use Rattle.tracker.proofs.refuse.delete_in_rows.Statement.{statement}

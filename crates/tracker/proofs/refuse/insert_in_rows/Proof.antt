@@ -7,8 +7,8 @@ use mathlib.Core.Bool.{Bool, _&&_}
 use lib.Dec.{leb}
 use lib.ListN.{length}
 use Rattle.span.specs.Units.{join}
-use Rattle.rope.specs.Limits.{fits}
-use Rattle.rope.specs.Place.{insertUnits}
+use Rattle.units.specs.Limits.{fits}
+use Rattle.units.specs.Place.{insertUnits}
 use native.Mathlib.Omega.{arith}
 use borrow.Author.Needs.{needs}
 use Rattle.tracker.proofs.refuse.insert_in_rows.Statement.{statement}

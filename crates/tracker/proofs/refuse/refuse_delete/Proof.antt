@@ -7,7 +7,7 @@ use mathlib.Core.Path.{refl, sym, _∙_}
 use mathlib.Core.Bool.{true, false}
 use Prim.Native.Nat.{_+_, _<_, _≤_}
 use lib.ListN.{length}
-use Rattle.rope.specs.Place.{shown}
+use Rattle.units.specs.Place.{shown}
 use native.Mathlib.Omega.{arith}
 use borrow.Author.Needs.{needs}
 use Rattle.tracker.proofs.refuse.refuse_delete.Statement.{statement}

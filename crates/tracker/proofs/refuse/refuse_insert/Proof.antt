@@ -7,7 +7,7 @@ use Prim.Native.Nat.{_+_, _<_, _≤_}
 use lib.ListN.{length}
 use Rattle.span.specs.Span.{lenSpan}
 use Rattle.store.specs.Row.{rows}
-use Rattle.rope.specs.Place.{shown}
+use Rattle.units.specs.Place.{shown}
 use Rattle.rope.proofs.WellFormed.{formed-of}
 use native.Mathlib.Omega.{arith}
 use borrow.Author.Needs.{needs}

@@ -1,7 +1,7 @@
 use mathlib.Core.Path.{ap, _∙_}
 use Rattle.span.specs.declared.status.Status.{Status}
 use Rattle.span.specs.declared.span.OptStatus.the-variants.{Nothing}
-use Rattle.rope.specs.Change.{withState}
+use Rattle.units.specs.Change.{withState}
 use borrow.Author.Needs.{needs}
 use Rattle.tracker.specs.Restate.{bareSpan}
 use Rattle.tracker.proofs.restate.bare.Statement.{statement}

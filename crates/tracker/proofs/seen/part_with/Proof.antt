@@ -1,4 +1,4 @@
-use Rattle.rope.specs.Change.{withState}
+use Rattle.units.specs.Change.{withState}
 use Rattle.span.proofs.Unique.{in-range, len-small}
 use Rattle.span.specs.declared.span.FugueSpan.{FugueSpan}
 use Prim.Native.Nat.{_+_}

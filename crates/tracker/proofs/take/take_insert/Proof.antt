@@ -1,7 +1,7 @@
 use Rattle.span.specs.declared.span.FugueSpan.{FugueSpan}
 use Rattle.span.specs.Span.{newSpan}
 use Rattle.store.specs.Header.{room, spansOf}
-use Rattle.rope.specs.Codes.{insertCode}
+use Rattle.units.specs.Codes.{insertCode}
 use Rattle.rope.specs.Edits.{WrittenIn, insertList}
 use Rattle.rope.proofs.Entering.{said-refused, said-done}
 use Rattle.tracker.proofs.Doing.{edited-written}

@@ -2,7 +2,7 @@ use Rattle.span.specs.declared.ids.OptId.{OptId}
 use Rattle.span.specs.declared.status.Status.{Status}
 use mathlib.Core.Path.{sym, ap₂, _∙_}
 use Rattle.rope.proofs.Cuts.{gone}
-use Rattle.rope.specs.Change.{withState, deleteUnit}
+use Rattle.units.specs.Change.{withState, deleteUnit}
 use borrow.Author.Needs.{needs}
 use Rattle.rope.proofs.change.Delete.changed.Statement.{statement}
 use Rattle.rope.proofs.change.Delete.changed.Tie as tie

@@ -1,4 +1,4 @@
-use Rattle.rope.specs.Change.{baseOf}
+use Rattle.units.specs.Change.{baseOf}
 use borrow.Author.Needs.{needs}
 use Rattle.rope.proofs.change.Update.base.Statement.{statement}
 use Rattle.rope.proofs.change.Update.base.Tie as tie

@@ -1,6 +1,6 @@
 use Rattle.rope.proofs.Cuts.{updated-diff, updated}
 use mathlib.Core.Path.{ap, _∙_}
-use Rattle.rope.specs.Change.{changeStatus}
+use Rattle.units.specs.Change.{changeStatus}
 use borrow.Author.Needs.{needs}
 use Rattle.rope.proofs.change.Update.changed.Statement.{statement}
 use Rattle.rope.proofs.change.Update.changed.Tie as tie

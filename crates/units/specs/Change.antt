@@ -16,9 +16,9 @@ use Rattle.span.specs.Ids.{incId}
 use Rattle.span.specs.Status.{status, activated}
 use Rattle.span.specs.Span.{activeLen, partSpan}
 use Rattle.span.specs.Units.{expand}
-use Rattle.rope.specs.Place.{front, behind}
-pub use Rattle.rope.specs.declared.change.SetFuture.{SetFuture}
-pub use Rattle.rope.specs.declared.change.SetFuture.the-variants.{Keep, Now, Future}
+use Rattle.units.specs.Place.{front, behind}
+pub use Rattle.units.specs.declared.change.SetFuture.{SetFuture}
+pub use Rattle.units.specs.declared.change.SetFuture.the-variants.{Keep, Now, Future}
 
 -- a unit with other statuses and another real id
 unfoldable pub withState : FugueSpan → Status → OptStatus → OptId → FugueSpan

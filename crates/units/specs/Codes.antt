@@ -14,13 +14,13 @@ use Rattle.span.specs.Ids.{UNKNOWN-PEER, incId, roomOpt}
 use Rattle.span.specs.Status.{eqZ, inI16}
 use Rattle.span.specs.Span.{lenSpan, idsOk}
 use Rattle.span.specs.Units.{expand, join}
-use Rattle.rope.specs.Place.{memId, shown, insertUnits}
-use Rattle.rope.specs.Limits.{UNITS, fits}
-use Rattle.rope.specs.Lists.{every, keepIf, over}
-use Rattle.rope.specs.Change.{SetFuture, deleteUnits, pieces, baseOf, inRange, updateUnits, clearUnits}
-use Rattle.rope.specs.Delta.{Entry, entries, insertable}
-use Rattle.rope.specs.Query.{placeholder}
-use Rattle.rope.specs.Store.{wellFormed}
+use Rattle.units.specs.Place.{memId, shown, insertUnits}
+use Rattle.units.specs.Limits.{UNITS, fits}
+use Rattle.units.specs.Lists.{every, keepIf, over}
+use Rattle.units.specs.Change.{SetFuture, deleteUnits, pieces, baseOf, inRange, updateUnits, clearUnits}
+use Rattle.units.specs.Delta.{Entry, entries, insertable}
+use Rattle.units.specs.Query.{placeholder}
+use Rattle.units.specs.Store.{wellFormed}
 
 -- a number unless a test holds, and else what follows
 abbrev pub unless : Bool → ℕ → ℕ → ℕ

@@ -10,7 +10,7 @@ use Rattle.span.specs.declared.span.FugueSpan.{FugueSpan}
 use Rattle.span.specs.Span.{spanCode, joinsSpan}
 use Rattle.span.specs.Units.{expand}
 use Rattle.store.specs.Limits.{UNITS}
-use Rattle.rope.specs.Place.{memId}
+use Rattle.units.specs.Place.{memId}
 -- the number of rows, the room for rows, and the list of spans in the rows (crate store)
 unfoldable pub use Rattle.store.specs.Header.{count, room, spansOf}
 

@@ -1,9 +1,9 @@
 use borrow.Author.Tests.{eq-eqb, ne-eqb, lt-ltb, le-ltb}
-use Rattle.rope.specs.Place.{byPos}
-use Rattle.rope.proofs.place.by_pos.Statement.{statement}
-use Rattle.rope.proofs.place.by_pos.Tie as tie
-use Rattle.rope.proofs.place.by_pos.Reads as reads
-use Rattle.rope.proofs.place.by_pos.Lts as lts
+use Rattle.units.specs.Place.{byPos}
+use Rattle.units.proofs.place.by_pos.Statement.{statement}
+use Rattle.units.proofs.place.by_pos.Tie as tie
+use Rattle.units.proofs.place.by_pos.Reads as reads
+use Rattle.units.proofs.place.by_pos.Lts as lts
 
 returns : tie.Need-returns
 unfolding byPos

@@ -14,10 +14,10 @@ use Rattle.span.specs.Chunk.{lenOf, joins, mergedChunk}
 use Rattle.span.specs.Ids.{UNKNOWN-PEER, incId, sameId}
 use Rattle.span.specs.Span.{lenSpan, activeLen, realOf, diffOf}
 -- an entry: Retain, Delete or Insert, the last with a lamport or none
-pub use Rattle.rope.specs.declared.diff.OptLamport.{OptLamport}
-pub use Rattle.rope.specs.declared.diff.OptLamport.the-variants.{Nothing, At}
-pub use Rattle.rope.specs.declared.diff.Entry.{Entry}
-pub use Rattle.rope.specs.declared.diff.Entry.the-variants.{Retain, Delete, Insert}
+pub use Rattle.units.specs.declared.diff.OptLamport.{OptLamport}
+pub use Rattle.units.specs.declared.diff.OptLamport.the-variants.{Nothing, At}
+pub use Rattle.units.specs.declared.diff.Entry.{Entry}
+pub use Rattle.units.specs.declared.diff.Entry.the-variants.{Retain, Delete, Insert}
 
 -- the lamport of an Insert: none for the unknown peer
 unfoldable pub lamportOf : FugueSpan → OptLamport

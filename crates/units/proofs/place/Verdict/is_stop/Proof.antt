@@ -1,9 +1,9 @@
-use Rattle.rope.specs.Place.{isStop}
+use Rattle.units.specs.Place.{isStop}
 use borrow.Author.Needs.{needs}
-use Rattle.rope.proofs.place.Verdict.is_stop.Statement.{statement}
-use Rattle.rope.proofs.place.Verdict.is_stop.Tie as tie
-use Rattle.rope.proofs.place.Verdict.is_stop.Reads as reads
-use Rattle.rope.proofs.place.Verdict.is_stop.Lts as lts
+use Rattle.units.proofs.place.Verdict.is_stop.Statement.{statement}
+use Rattle.units.proofs.place.Verdict.is_stop.Tie as tie
+use Rattle.units.proofs.place.Verdict.is_stop.Reads as reads
+use Rattle.units.proofs.place.Verdict.is_stop.Lts as lts
 
 enum-told : tie.Need-enum-told
 enum-told c = search needs

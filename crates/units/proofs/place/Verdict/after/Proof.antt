@@ -1,9 +1,9 @@
-use Rattle.rope.specs.Place.{after}
+use Rattle.units.specs.Place.{after}
 use borrow.Author.Needs.{needs}
-use Rattle.rope.proofs.place.Verdict.after.Statement.{statement}
-use Rattle.rope.proofs.place.Verdict.after.Tie as tie
-use Rattle.rope.proofs.place.Verdict.after.Reads as reads
-use Rattle.rope.proofs.place.Verdict.after.Lts as lts
+use Rattle.units.proofs.place.Verdict.after.Statement.{statement}
+use Rattle.units.proofs.place.Verdict.after.Tie as tie
+use Rattle.units.proofs.place.Verdict.after.Reads as reads
+use Rattle.units.proofs.place.Verdict.after.Lts as lts
 
 enum-told : tie.Need-enum-told
 enum-told c = search needs

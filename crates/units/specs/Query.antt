@@ -10,7 +10,7 @@ use Rattle.span.specs.Chunk.{UNKNOWN, chunk}
 use Rattle.span.specs.Ids.{UNKNOWN-PEER, id, incId}
 use Rattle.span.specs.Status.{activated}
 use Rattle.span.specs.Span.{activeLen, realOf, newSpan}
-use Rattle.rope.specs.Lists.{keepIf}
+use Rattle.units.specs.Lists.{keepIf}
 
 -- the visible units, in list order (`shown` is their number)
 unfoldable pub visibles : List FugueSpan → List FugueSpan

@@ -1,0 +1,10 @@
+pub mod Limits
+pub mod Lists
+pub mod Place
+pub mod Store
+pub mod Change
+pub mod Delta
+pub mod Query
+pub mod Codes
+pub mod Open
+pub mod Rows
