@@ -1,4 +1,4 @@
-//! A sample of random histories with the Rust's answers, for crates/lane_history: a script, and what the lane program is to say to it. The lane program is not asked.
+//! A sample of random histories with the Rust's answers, for crates/lane_replay: a script, and what the lane program is to say to it. The lane program is not asked.
 //!
 //! Every line is asked of tracker.rs over each variant of the stand-in and of the reading of 01. Apart from cuts they must agree, or there is no sample. What is recorded is the
 //! answer of the Rust over the first variant, to the letter, without the diff_status that a delta leaves standing. Where its cuts are not 01's, there is nothing to record to the letter:

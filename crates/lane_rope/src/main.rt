@@ -1,4 +1,0 @@
-// Recorded answers of a rope's calls: the lane program on this folder's stdin must write its stdout.
-fn main() {
-    session::run(0)
-}
