@@ -16,7 +16,7 @@ pub type Said = Vec<String>;
 
 pub struct Lane {
     command: Vec<String>,
-    /// Where the script and what the program prints are kept.
+    /// Where the script and what the program prints are kept: a folder of this process, so that two runs may go on side by side.
     dir: PathBuf,
     limit: Duration,
 }
@@ -33,12 +33,12 @@ impl Lane {
     }
 
     pub fn named(dir: &str, command: &str) -> Lane {
-        let dir = PathBuf::from(dir);
-        std::fs::create_dir_all(&dir).expect("the folder for the runs is made");
+        let dir = PathBuf::from(dir).join(std::process::id().to_string());
         Lane { command: command.split_whitespace().map(String::from).collect(), dir, limit: Duration::from_secs(300) }
     }
 
     pub fn run(&self, script: &[u8]) -> Run {
+        std::fs::create_dir_all(&self.dir).expect("the folder for the runs is made");
         let path = |name: &str| self.dir.join(name);
         std::fs::write(path("script"), script).expect("the script is written");
         let open = |name: &str| File::create(path(name)).expect("an output is opened");
@@ -69,6 +69,12 @@ impl Lane {
         let text = std::fs::read(path("answers")).expect("the answers are read");
         let (answers, broken) = group(&String::from_utf8_lossy(&text));
         Run { answers, fault: fault.or(broken) }
+    }
+}
+
+impl Drop for Lane {
+    fn drop(&mut self) {
+        let _ = std::fs::remove_dir_all(&self.dir);
     }
 }
 
