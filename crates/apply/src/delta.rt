@@ -19,7 +19,7 @@ use span::status::Status;
 use units::diff::Entry;
 
 // How many items there are now, or the number of the refusal.
-#[derive(Drop)]
+#[derive(Clone, Copy)]
 pub enum ApplyAnswer {
     Done(usize),
     Refused(u8),

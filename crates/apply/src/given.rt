@@ -10,7 +10,7 @@ use span::ids::{Id, OptId};
 use units::diff::{Entry, OptLamport};
 
 // An entry of a known kind, or none.
-#[derive(Drop)]
+#[derive(Clone, Copy)]
 pub enum Given {
     Known(Entry),
     Strange,

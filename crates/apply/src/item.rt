@@ -12,7 +12,7 @@ use span::ids::Id;
 use span::span::FugueSpan;
 
 // A unit as its real id (own id if none) and its chunk.
-#[derive(Drop)]
+#[derive(Clone, Copy)]
 pub struct Item {
     pub id: Id,
     pub content: RichtextChunk,

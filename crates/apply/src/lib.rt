@@ -3,6 +3,8 @@
 // Entries come in columns of numbers, as get_diff of the rope fills them; lists are items in rows of 24 lent bytes. `delta::apply` is the applier, and
 // `visible::visible_items` writes the list of a store that a delta is applied to. That get_diff, visible_items and apply together give the new visible
 // list is proved of the three contracts (proofs/Composed), from the law on the definitions (proofs/DeltaApplies).
+#![tactic(auto)]
+
 pub mod delta;
 pub mod given;
 pub mod item;

@@ -1,4 +1,6 @@
 // Questions to a store and the calls of a history, exported for the programs in tests/: they own the memory.
+#![tactic(auto)]
+
 use rope::diff::DiffAnswer;
 use rope::find::Found;
 use rope::query::{LenAnswer, RealAnswer};

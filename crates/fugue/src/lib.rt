@@ -14,3 +14,5 @@
 // depend on the units that are not future alone (Past), so what is concurrent cannot change an edit.
 //
 // Clocks speaks of arrival orders without lists, Counting and Splices of lists; crate history puts all of it together.
+
+#![tactic(auto)]

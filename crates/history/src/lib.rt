@@ -10,3 +10,5 @@
 // the invariant; Arrive, that an arrival keeps it; Compare, that two histories show the same units in a version that both hold; Converge and OnUnits, demand 3
 // on units; Sets, from the demand's conditions to clocks; Valid, Codes, Stored, from units to what is stored and to refusal numbers. ArriveValid, StaysValid
 // and Runs say that a valid history stays valid, whoever made it, and a run of edits too. docs/ARCHITECTURE.md has every file by what it carries.
+
+#![tactic(auto)]

@@ -1,22 +1,25 @@
 // The lane program: answers the script in the file that its first argument names, or in standard input where it has none.
-use libc::STDIN_FILENO;
+#![tactic(auto)]
 
-fn main() {
-    if os::arg_count() < 2 {
-        session::run(STDIN_FILENO);
-        return;
+use session::console::Source;
+use std::env::{Env, FillError};
+use std::{fs, io, str};
+
+fn main(rt: HostRuntime) -> io::Result<()> {
+    let mut path = [0u8; 4096];
+    let n = match rt.arg(1, &mut path) {
+        Ok(n) => n,
+        Err(FillError::NotPresent) => {
+            return session::run(Source::Standard(rt.stdin()), rt.stdout());
+        }
+        Err(FillError::TooLong) => return eprintln!(rt; "path: File name too long"),
+    };
+    let path = match str::from_utf8(&path[..n]) {
+        Ok(path) => path,
+        Err(_) => return eprintln!(rt; "path: not UTF-8"),
+    };
+    match fs::open(&rt, path) {
+        Ok(file) => session::run(Source::Named(file), rt.stdout()),
+        Err(e) => eprintln!(rt; "{path}: {e}"),
     }
-    let mut path = io::buffer();
-    let n = os::arg(1, &mut path);
-    if os::errno() != 0 {
-        os::fail(b"path");
-        return;
-    }
-    let fd = os::open_read(&path[..n]);
-    if fd < 0 {
-        os::fail(&path[..n]);
-        return;
-    }
-    session::run(fd);
-    libc::close(fd);
 }

@@ -9,7 +9,6 @@ use lib.ListN.{length, set, drop, length-set}
 use borrow.Author.Tests.{eqb-true}
 use Rattle.store.proofs.Laws.{length-rows}
 use Rattle.span.specs.Units.{expand}
-use Rattle.store.specs.Row.{rows}
 use Rattle.rope.specs.declared.diff.EntryNumbers.{EntryNumbers}
 use Rattle.units.specs.declared.diff.Entry.{Entry}
 use Rattle.rope.specs.declared.diff.Step.{Step}

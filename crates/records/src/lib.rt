@@ -2,7 +2,9 @@
 //
 // A record has the numbers of one entry that rope::diff's columns have, side by side (kind 0 Retain, 1 Delete, 2 Insert, 3 Insert without lamport). The
 // entry is one thin loop over the step that fills the columns too: `start` decides all refusals and counts before the first store, and `next_record` takes
-// the next entry. Both are on plain values. A slice of structs is proved by a walk by hand, so only the loop touches it (proofs/get_diff_records).
+// the next entry. Both are on plain values, and only the loop touches the slice (proofs/Stands says where it stands).
+#![tactic(auto)]
+
 ghost use Rattle.std.specs.Prelude.{◌≡◌, length};
 ghost use Rattle.store.specs.Row.{rows};
 ghost use Rattle.units.specs.Store.{spans_of};
@@ -15,7 +17,7 @@ use rope::state::check;
 use store::header;
 
 // Where the loop stands: the answer, how many records there are, the row and the gap from which the rest goes on, and the record to store.
-#[derive(Drop)]
+#[derive(Clone, Copy)]
 pub struct Spot {
     pub answer: DiffAnswer,
     pub many: usize,

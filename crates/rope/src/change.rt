@@ -11,7 +11,7 @@ use span::status::{Counter, Status, StatusAnswer, counter_of};
 use units::change::SetFuture;
 
 // The delete of `len` visible units after `at` visible ones. The first of them is offered the real id `start`.
-#[derive(Drop)]
+#[derive(Clone, Copy)]
 pub struct Delete {
     pub at: u32,
     pub len: u32,
@@ -20,7 +20,7 @@ pub struct Delete {
 
 // The update of the counters from..to of a peer: future is set as asked, and `change` is added to the count, of the status or of the
 // diff_status.
-#[derive(Drop)]
+#[derive(Clone, Copy)]
 pub struct Update {
     pub peer: u64,
     pub from: u32,
@@ -30,14 +30,14 @@ pub struct Update {
     pub diff: bool,
 }
 
-#[derive(Drop)]
+#[derive(Clone, Copy)]
 pub enum Change {
     Delete(Delete),
     Update(Update),
 }
 
 // The units from..to of a span.
-#[derive(Drop)]
+#[derive(Clone, Copy)]
 pub struct Part {
     pub from: u32,
     pub to: u32,

@@ -37,7 +37,7 @@ pub fn delete_rows(s: &mut [u8], n: usize, at: u32, len: u32, start: Id) -> usiz
 }
 
 // The number of removed pieces, or the number of the refusal.
-#[derive(Drop)]
+#[derive(Clone, Copy)]
 pub enum DeleteAnswer {
     Done(usize),
     Refused(u8),

@@ -15,21 +15,21 @@ use store::header;
 use units::diff::{Entry, OptLamport};
 
 // What a span does to the delta: nothing, or an entry.
-#[derive(Drop)]
+#[derive(Clone, Copy)]
 pub enum Change {
     Same,
     Is(Entry),
 }
 
 // The next entry, with the row and the gap from which the rest goes on; or the end.
-#[derive(Drop)]
+#[derive(Clone, Copy)]
 pub enum Step {
     End,
     Next(Entry, usize, u32),
 }
 
 // How many entries there are, or the number of the refusal.
-#[derive(Drop)]
+#[derive(Clone, Copy)]
 pub enum DiffAnswer {
     Done(usize),
     Refused(u8),
@@ -37,7 +37,7 @@ pub enum DiffAnswer {
 
 // An entry as numbers, one for each column. The kind is 0 Retain, 1 Delete, 2 Insert, 3 Insert without lamport; a is the length or the chunk's
 // start, b the chunk's end; the counter stands by its bits. What an entry does not have is 0.
-#[derive(Drop)]
+#[derive(Clone, Copy)]
 pub struct EntryNumbers {
     pub kind: u8,
     pub a: u32,

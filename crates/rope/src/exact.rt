@@ -15,14 +15,14 @@ use span::span::{FugueSpan, OptStatus};
 use span::status::Status;
 
 // A span in two: the count that an update works on, as it may be no i16 any more, and the rest, where it is 0.
-#[derive(Drop)]
+#[derive(Clone, Copy)]
 pub struct Exact {
     pub times: i32,
     pub rest: FugueSpan,
 }
 
 // The number of rows so far, and the last piece of them.
-#[derive(Drop)]
+#[derive(Clone, Copy)]
 pub struct Tail {
     pub rows: usize,
     pub last: Exact,

@@ -10,7 +10,7 @@ use span::span::FugueSpan;
 use span::status::{Counter, counter_of};
 
 // Where in a span an id stands.
-#[derive(Drop)]
+#[derive(Clone, Copy)]
 pub enum Offset {
     At(u32),
     Nothing,
@@ -57,7 +57,7 @@ pub fn covers(row: FugueSpan, o: OptId) -> bool
 }
 
 // Where the list has an id: the row, and the units before it there.
-#[derive(Drop)]
+#[derive(Clone, Copy)]
 pub enum Found {
     At(usize, u32),
     Nothing,

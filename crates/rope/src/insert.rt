@@ -13,7 +13,7 @@ use span::span::FugueSpan;
 
 // What an insert does to the rows: a row becomes that row and the span joined to its end; the span goes before a row; or it goes into a row,
 // after so many of its units.
-#[derive(Drop)]
+#[derive(Clone, Copy)]
 pub enum Plan {
     Join(usize, FugueSpan),
     Own(usize, FugueSpan),

@@ -12,7 +12,7 @@ use span::span::FugueSpan;
 use units::place::{Verdict, by_pos};
 
 // What a span tells of a parent right: it is this unit of it, it is a unit with another origin left, or no unit of it.
-#[derive(Drop)]
+#[derive(Clone, Copy)]
 pub enum Right {
     Here(usize),
     Other,

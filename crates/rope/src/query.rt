@@ -11,14 +11,14 @@ use span::ids::Id;
 use store::header;
 
 // The visible length, or the number of the refusal.
-#[derive(Drop)]
+#[derive(Clone, Copy)]
 pub enum LenAnswer {
     Done(usize),
     Refused(u8),
 }
 
 // A real id and the units left in its span, nothing from the visible length on, or the number of the refusal.
-#[derive(Drop)]
+#[derive(Clone, Copy)]
 pub enum RealAnswer {
     At(Id, u32),
     Nothing,

@@ -9,7 +9,7 @@ ghost use Rattle.rope.specs.Spans.{Stored, seek_in};
 use span::span::FugueSpan;
 
 // A place in the list: after so many units of a row.
-#[derive(Drop)]
+#[derive(Clone, Copy)]
 pub struct Cursor {
     pub row: usize,
     pub offset: u32,

@@ -12,7 +12,7 @@ use lib.IntN.{ℤ}
 use mir.Syntax.{w16, w32}
 use mir.Val.{SFits}
 use mir.Facts.{to_z-of_z}
-use Rattle.bytes.specs.Bytes.{index_after, index_of}
+use Rattle.text.specs.Bytes.{index_after, index_of}
 use Rattle.text.specs.declared.numbers.Number.TheVariants as U64
 use Rattle.text.specs.declared.numbers.Number32.TheVariants as U32
 use Rattle.text.specs.Ascii.{ascii}

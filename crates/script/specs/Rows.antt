@@ -1,6 +1,6 @@
 -- Lines of docs/SCRIPT.md, what they say, and lines of answers, computed.
 use Rattle.std.specs.Prelude.{◌≡◌, refl, true, false, [], ◌∷◌, ◌++◌, pos, negsuc}
-use Rattle.bytes.specs.Bytes.{index_of}
+use Rattle.text.specs.Bytes.{index_after, index_of}
 use Rattle.text.specs.Ascii.{ascii}
 use Rattle.text.specs.Parts.{rest, parts, same_text}
 use Rattle.text.specs.Numbers.{is_digit, all_digits, value, up_to, decimal_of, places, numeral, int_text, negated, signed_of, fit32, fit16}
@@ -91,7 +91,7 @@ unfolding places numeral int_text peer_text number_text id_text opt_id_text stat
 answers_hold = record { refused = refl; unit = refl; item = refl; diff = refl; at = refl }
 
 pub rows_hold : Rows
-unfolding index_of rest parts same_text is_digit all_digits value up_to decimal_of negated signed_of fit32 fit16 peer_of id_from opt_word status_from status_word diff_word change_word flag_word raw_from two_words three_words one_word chunk_by span_of pair_count pair_of pairs_from is_version insert_from delete_from deleting_of arriving_of set_word updating_of ins_of del_of two_versions row_of alone_of numbered_of pair_call several_of call_by
+unfolding index_of index_after rest parts same_text is_digit all_digits value up_to decimal_of negated signed_of fit32 fit16 peer_of id_from opt_word status_from status_word diff_word change_word flag_word raw_from two_words three_words one_word chunk_by span_of pair_count pair_of pairs_from is_version insert_from delete_from deleting_of arriving_of set_word updating_of ins_of del_of two_versions row_of alone_of numbered_of pair_call several_of call_by
 rows_hold =
     record {
       empty = refl;

@@ -11,7 +11,7 @@ use text::numbers::Number32;
 use text::parts::{rest, same};
 
 // Of `insert` and `ins`.
-#[derive(Drop)]
+#[derive(Clone, Copy)]
 pub struct Insert {
     pub pos: u32,
     pub id: Id,
@@ -20,7 +20,7 @@ pub struct Insert {
 }
 
 // Of `delete` and `del`: `start` is the first target.
-#[derive(Drop)]
+#[derive(Clone, Copy)]
 pub struct Delete {
     pub pos: u32,
     pub len: u32,
@@ -28,7 +28,7 @@ pub struct Delete {
     pub reversed: bool,
 }
 
-#[derive(Drop)]
+#[derive(Clone, Copy)]
 pub enum SetFuture {
     Keep,
     Now,
@@ -36,7 +36,7 @@ pub enum SetFuture {
 }
 
 // The ids from..to, of one peer.
-#[derive(Drop)]
+#[derive(Clone, Copy)]
 pub struct Update {
     pub from: Id,
     pub to: Id,
@@ -46,13 +46,13 @@ pub struct Update {
 }
 
 // PEER COUNTER of a deleting edit stand between LEN and TPEER.
-#[derive(Drop)]
+#[derive(Clone, Copy)]
 pub struct Arriving {
     pub id: Id,
     pub delete: Delete,
 }
 
-#[derive(Drop)]
+#[derive(Clone, Copy)]
 pub enum RopeCall {
     Insert(Insert),
     Delete(Delete),
@@ -62,7 +62,7 @@ pub enum RopeCall {
 }
 
 // The context of an edit is word 1 of the line, and so is the version of a checkout; a delta's versions are words 1 and 2.
-#[derive(Drop)]
+#[derive(Clone, Copy)]
 pub enum HistoryCall {
     Insert(Insert),
     Delete(Arriving),
@@ -72,7 +72,7 @@ pub enum HistoryCall {
 }
 
 // What works on a rope and on a history alike.
-#[derive(Drop)]
+#[derive(Clone, Copy)]
 pub enum Look {
     At(u32),
     Len,
@@ -84,7 +84,7 @@ pub enum Look {
     Sum,
 }
 
-#[derive(Drop)]
+#[derive(Clone, Copy)]
 pub enum Call {
     Room(u32),
     Targets(u32),
@@ -99,19 +99,19 @@ pub enum Call {
     Bad,
 }
 
-#[derive(Drop)]
+#[derive(Clone, Copy)]
 pub enum InsertField {
     Is(Insert),
     Bad,
 }
 
-#[derive(Drop)]
+#[derive(Clone, Copy)]
 pub enum DeleteField {
     Is(Delete),
     Bad,
 }
 
-#[derive(Drop)]
+#[derive(Clone, Copy)]
 pub enum SetField {
     Is(SetFuture),
     Bad,

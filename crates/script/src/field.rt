@@ -10,49 +10,49 @@ use span::status::Status;
 use text::numbers::{Number, Number16, Number32, decimal, signed, to_u16, to_u32};
 use text::parts::{after, before, part, parts, same};
 
-#[derive(Drop)]
+#[derive(Clone, Copy)]
 pub enum IdField {
     Is(Id),
     Bad,
 }
 
-#[derive(Drop)]
+#[derive(Clone, Copy)]
 pub enum OptIdField {
     Is(OptId),
     Bad,
 }
 
-#[derive(Drop)]
+#[derive(Clone, Copy)]
 pub enum StatusField {
     Is(Status),
     Bad,
 }
 
-#[derive(Drop)]
+#[derive(Clone, Copy)]
 pub enum OptStatusField {
     Is(OptStatus),
     Bad,
 }
 
-#[derive(Drop)]
+#[derive(Clone, Copy)]
 pub enum ChunkField {
     Is(RichtextChunk),
     Bad,
 }
 
-#[derive(Drop)]
+#[derive(Clone, Copy)]
 pub enum SpanField {
     Is(FugueSpan),
     Bad,
 }
 
-#[derive(Drop)]
+#[derive(Clone, Copy)]
 pub enum FlagField {
     Is(bool),
     Bad,
 }
 
-#[derive(Drop)]
+#[derive(Clone, Copy)]
 pub enum ChangeField {
     Is(i16),
     Bad,

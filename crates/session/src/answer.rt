@@ -3,8 +3,9 @@ ghost use Rattle.std.specs.Prelude.{◌≡◌};
 ghost use Rattle.session.specs.Lines.{ok_lines, error_lines};
 ghost use Rattle.session.specs.Sessions.{bytes_for, Answered, OpenedIn};
 
+use crate::console::Output;
 use crate::state::{Open, Session};
-use crate::{calls, history, look, reply};
+use crate::{calls, history_calls, look, reply};
 use script::call::{Call, HistoryCall, Look, RopeCall, parse};
 use text::parts::{before, trim};
 
@@ -16,23 +17,29 @@ fn bytes_of(rows: u32) -> usize
 }
 
 // The end of an opening: where it was refused, what was open stays.
-fn opened(s: Session, what: Open, code: u8, text: &mut [u8]) -> Session
+fn opened(s: Session, what: Open, code: u8, output: &mut Output, text: &mut [u8]) -> Session
     ensures { OpenedIn s what code text.old result text.new }
 {
-    let s = s.said(reply::done(text, s.at, code));
+    let s = s.said(reply::done(output, text, s.at, code));
     if code == 0 { s.opened(what) } else { s }
 }
 
-fn open_empty(s: Session, store: &mut [u8], text: &mut [u8]) -> Session {
+fn open_empty(s: Session, store: &mut [u8], output: &mut Output, text: &mut [u8]) -> Session {
     let n = reply::within(bytes_of(s.room), store);
     let code = rope::state::open(&mut store[..n]);
-    opened(s, Open::Rope, code, text)
+    opened(s, Open::Rope, code, output, text)
 }
 
-fn open_placeholder(s: Session, units: u32, store: &mut [u8], text: &mut [u8]) -> Session {
+fn open_placeholder(
+    s: Session,
+    units: u32,
+    store: &mut [u8],
+    output: &mut Output,
+    text: &mut [u8],
+) -> Session {
     let n = reply::within(bytes_of(s.room), store);
     let code = rope::state::open_with(&mut store[..n], units);
-    opened(s, Open::Rope, code, text)
+    opened(s, Open::Rope, code, output, text)
 }
 
 // A history, with a placeholder where it has units.
@@ -50,36 +57,44 @@ fn open_history(
     store: &mut [u8],
     targets: &[u8],
     edits: &mut [u8],
+    output: &mut Output,
     text: &mut [u8],
 ) -> Session {
     let n = reply::within(bytes_of(s.room), store);
     let m = reply::within(16 * (s.targets as usize), targets);
     let code = start(units, &mut store[..n], &targets[..m], edits);
-    opened(s, Open::History, code, text)
+    opened(s, Open::History, code, output, text)
 }
 
-fn error(s: Session, text: &mut [u8]) -> Session
+fn error(s: Session, output: &mut Output, text: &mut [u8]) -> Session
     ensures { Answered s error_lines text.old result text.new }
 {
-    s.said(reply::error(text, s.at))
+    s.said(reply::error(output, text, s.at))
 }
 
-fn ok(s: Session, text: &mut [u8]) -> Session
+fn ok(s: Session, output: &mut Output, text: &mut [u8]) -> Session
     ensures { Answered s ok_lines text.old result text.new }
 {
-    s.said(reply::ok(text, s.at))
+    s.said(reply::ok(output, text, s.at))
 }
 
-fn on_rope(s: Session, c: RopeCall, store: &mut [u8], out: &mut [u8], text: &mut [u8]) -> Session {
+fn on_rope(
+    s: Session,
+    c: RopeCall,
+    store: &mut [u8],
+    out: &mut [u8],
+    output: &mut Output,
+    text: &mut [u8],
+) -> Session {
     let open = s.open;
     match open {
-        Open::Nothing => error(s, text),
+        Open::Nothing => error(s, output, text),
         Open::Rope => {
             let n = reply::within(bytes_of(s.lent), store);
             let m = reply::within(72 * (s.out as usize), out);
-            s.said(calls::call(c, &mut store[..n], &mut out[..m], text, s.at))
+            s.said(calls::call(c, &mut store[..n], &mut out[..m], output, text, s.at))
         }
-        Open::History => error(s, text),
+        Open::History => error(s, output, text),
     }
 }
 
@@ -91,18 +106,20 @@ fn in_history(
     targets: &mut [u8],
     edits: &mut [u8],
     out: &mut [u8],
+    output: &mut Output,
     text: &mut [u8],
 ) -> Session {
     let n = reply::within(bytes_of(s.lent), store);
     let m = reply::within(16 * (s.held as usize), targets);
     let k = reply::within(72 * (s.out as usize), out);
-    let at = history::call(
+    let at = history_calls::call(
         c,
         said,
         &mut store[..n],
         &mut targets[..m],
         edits,
         &mut out[..k],
+        output,
         text,
         s.at,
     );
@@ -117,19 +134,27 @@ fn on_history(
     targets: &mut [u8],
     edits: &mut [u8],
     out: &mut [u8],
+    output: &mut Output,
     text: &mut [u8],
 ) -> Session {
     let open = s.open;
     match open {
-        Open::Nothing => error(s, text),
-        Open::Rope => error(s, text),
-        Open::History => in_history(s, c, said, store, targets, edits, out, text),
+        Open::Nothing => error(s, output, text),
+        Open::Rope => error(s, output, text),
+        Open::History => in_history(s, c, said, store, targets, edits, out, output, text),
     }
 }
 
-fn at_rope(s: Session, l: Look, store: &mut [u8], out: &[u8], text: &mut [u8]) -> Session {
+fn at_rope(
+    s: Session,
+    l: Look,
+    store: &mut [u8],
+    out: &[u8],
+    output: &mut Output,
+    text: &mut [u8],
+) -> Session {
     let n = reply::within(bytes_of(s.lent), store);
-    s.said(look::look_at_rope(l, &mut store[..n], out, text, s.at))
+    s.said(look::look_at_rope(l, &mut store[..n], out, output, text, s.at))
 }
 
 fn at_history(
@@ -139,11 +164,21 @@ fn at_history(
     targets: &[u8],
     edits: &[u8],
     out: &[u8],
+    output: &mut Output,
     text: &mut [u8],
 ) -> Session {
     let n = reply::within(bytes_of(s.lent), store);
     let m = reply::within(16 * (s.held as usize), targets);
-    let at = look::look_at_history(l, &mut store[..n], &targets[..m], edits, out, text, s.at);
+    let at = look::look_at_history(
+        l,
+        &mut store[..n],
+        &targets[..m],
+        edits,
+        out,
+        output,
+        text,
+        s.at,
+    );
     s.said(at)
 }
 
@@ -154,13 +189,14 @@ fn on_any(
     targets: &[u8],
     edits: &[u8],
     out: &[u8],
+    output: &mut Output,
     text: &mut [u8],
 ) -> Session {
     let open = s.open;
     match open {
-        Open::Nothing => error(s, text),
-        Open::Rope => at_rope(s, l, store, out, text),
-        Open::History => at_history(s, l, store, targets, edits, out, text),
+        Open::Nothing => error(s, output, text),
+        Open::Rope => at_rope(s, l, store, out, output, text),
+        Open::History => at_history(s, l, store, targets, edits, out, output, text),
     }
 }
 
@@ -173,19 +209,20 @@ fn on_call(
     targets: &mut [u8],
     edits: &mut [u8],
     out: &mut [u8],
+    output: &mut Output,
     text: &mut [u8],
 ) -> Session {
     match c {
-        Call::Room(n) => ok(s.with_room(n), text),
-        Call::Targets(n) => ok(s.with_targets(n), text),
-        Call::Out(n) => ok(s.with_out(n), text),
-        Call::Empty => open_empty(s, store, text),
-        Call::Placeholder(n) => open_placeholder(s, n, store, text),
-        Call::New(n) => open_history(s, n, store, targets, edits, text),
-        Call::Rope(r) => on_rope(s, r, store, out, text),
-        Call::History(h) => on_history(s, h, said, store, targets, edits, out, text),
-        Call::Look(l) => on_any(s, l, store, targets, edits, out, text),
-        Call::Bad => error(s, text),
+        Call::Room(n) => ok(s.with_room(n), output, text),
+        Call::Targets(n) => ok(s.with_targets(n), output, text),
+        Call::Out(n) => ok(s.with_out(n), output, text),
+        Call::Empty => open_empty(s, store, output, text),
+        Call::Placeholder(n) => open_placeholder(s, n, store, output, text),
+        Call::New(n) => open_history(s, n, store, targets, edits, output, text),
+        Call::Rope(r) => on_rope(s, r, store, out, output, text),
+        Call::History(h) => on_history(s, h, said, store, targets, edits, out, output, text),
+        Call::Look(l) => on_any(s, l, store, targets, edits, out, output, text),
+        Call::Bad => error(s, output, text),
     }
 }
 
@@ -198,17 +235,28 @@ pub fn line(
     targets: &mut [u8],
     edits: &mut [u8],
     out: &mut [u8],
+    output: &mut Output,
     text: &mut [u8],
 ) -> Session {
     if cut {
-        return error(s, text);
+        return error(s, output, text);
     }
     if 4096 < t.len() {
-        return error(s, text);
+        return error(s, output, text);
     }
     let said = trim(before(t, b'#'), b' ');
     if said.len() == 0 {
         return s;
     }
-    on_call(s, parse(said), said, store, targets, edits, out, text)
+    on_call(
+        s,
+        parse(said),
+        said,
+        store,
+        targets,
+        edits,
+        out,
+        output,
+        text,
+    )
 }

@@ -11,6 +11,7 @@ ghost use Rattle.session.specs.Columns.{word_peers, word_counts};
 ghost use Rattle.session.specs.History.{Tells};
 ghost use Rattle.session.specs.Applied.{on_list_items, on_list_code, AppliesIn, Applies};
 
+use crate::console::Output;
 use crate::entries::most;
 use crate::front::{front_items, front8, front32, front64};
 use crate::versions::columns;
@@ -72,14 +73,17 @@ fn print_delta(
     peer: &mut [u64],
     counter: &mut [u32],
     lamport: &mut [u32],
+    output: &mut Output,
     text: &mut [u8],
     at: usize,
 ) -> usize
     ensures { Tells (least (length kind.old) (length a.old) (length b.old) (length peer.old) (length counter.old) (length lamport.old)) (word_of line.now 1) (word_of line.now 2) s.old t.now e.now at text.old result s.new text.new }
 {
     match delta_into(line, s, t, e, kind, a, b, peer, counter, lamport) {
-        DiffAnswer::Done(n) => entries::entries(kind, a, b, peer, counter, lamport, n, text, at),
-        DiffAnswer::Refused(code) => reply::refused(text, at, code),
+        DiffAnswer::Done(n) => entries::entries(
+            kind, a, b, peer, counter, lamport, n, output, text, at,
+        ),
+        DiffAnswer::Refused(code) => reply::refused(output, text, at, code),
     }
 }
 
@@ -90,6 +94,7 @@ pub fn delta(
     t: &[u8],
     e: &[u8],
     room: usize,
+    output: &mut Output,
     text: &mut [u8],
     at: usize,
 ) -> usize
@@ -113,6 +118,7 @@ pub fn delta(
         &mut peer[..n],
         &mut counter[..n],
         &mut lamport[..n],
+        output,
         text,
         at,
     )
@@ -120,25 +126,25 @@ pub fn delta(
 
 // ---- The delta applied
 
-fn item(out: &[u8], i: usize, text: &mut [u8], at: usize) -> usize
+fn item(out: &[u8], i: usize, output: &mut Output, text: &mut [u8], at: usize) -> usize
     ensures { Says at (item_at out.now i) text.old result text.new }
 {
     if i < out.len() / 24 {
         let x = get_item(out, i);
-        reply::item(text, at, x.id, x.content)
+        reply::item(output, text, at, x.id, x.content)
     } else {
         at
     }
 }
 
 // The n items at the front.
-fn items(out: &[u8], n: usize, text: &mut [u8], start: usize) -> usize
+fn items(out: &[u8], n: usize, output: &mut Output, text: &mut [u8], start: usize) -> usize
     ensures { Says start (listed_lines out.now n) text.old result text.new }
 {
-    let mut at = reply::counted(text, start, b"list", n as u64);
+    let mut at = reply::counted(output, text, start, b"list", n as u64);
     let mut i = 0;
     while i < n {
-        at = item(out, i, text, at);
+        at = item(out, i, output, text, at);
         i += 1;
     }
     at
@@ -170,12 +176,12 @@ fn apply_entries(
     )
 }
 
-fn listed(r: ApplyAnswer, out: &[u8], text: &mut [u8], at: usize) -> usize
+fn listed(r: ApplyAnswer, out: &[u8], output: &mut Output, text: &mut [u8], at: usize) -> usize
     ensures { Says at (answer_lines r out.now) text.old result text.new }
 {
     match r {
-        ApplyAnswer::Done(n) => items(out, n, text, at),
-        ApplyAnswer::Refused(code) => reply::refused(text, at, code),
+        ApplyAnswer::Done(n) => items(out, n, output, text, at),
+        ApplyAnswer::Refused(code) => reply::refused(output, text, at, code),
     }
 }
 
@@ -272,6 +278,7 @@ pub fn applied(
     t: &[u8],
     e: &[u8],
     out: &mut [u8],
+    output: &mut Output,
     text: &mut [u8],
     at: usize,
 ) -> usize
@@ -280,5 +287,5 @@ pub fn applied(
     let room = out.len() / 72;
     let n = room * 24;
     let r = with_columns(line, s, t, e, room, &mut out[..n]);
-    listed(r, out, text, at)
+    listed(r, out, output, text, at)
 }

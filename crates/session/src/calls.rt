@@ -11,54 +11,62 @@ ghost use Rattle.session.specs.Say.{Says};
 ghost use Rattle.session.specs.Lines.{piece_lines, pieces_lines};
 ghost use Rattle.session.specs.Calls.{EditSaid, DeleteSaid, set_of};
 
+use crate::console::Output;
 use crate::{entries, reply};
 use rope::delete::DeleteAnswer;
 use script::call::{Delete, Insert, RopeCall, SetFuture, Update};
 
-fn insert(x: Insert, s: &mut [u8], text: &mut [u8], at: usize) -> usize
+fn insert(x: Insert, s: &mut [u8], output: &mut Output, text: &mut [u8], at: usize) -> usize
     ensures { EditSaid (insert_number s.old x.pos (new_span x.id x.lamport x.content)) (insert_list s.old x.pos (new_span x.id x.lamport x.content)) s.old s.new at text.old result text.new }
 {
     let code = rope::edit::insert(s, x.pos, x.id, x.lamport, x.content);
-    reply::done(text, at, code)
+    reply::done(output, text, at, code)
 }
 
-fn clear(s: &mut [u8], text: &mut [u8], at: usize) -> usize
+fn clear(s: &mut [u8], output: &mut Output, text: &mut [u8], at: usize) -> usize
     ensures { EditSaid (state_code s.old) (join (clear_units (expand (spans_of s.old)))) s.old s.new at text.old result text.new }
 {
     let code = rope::edit::clear_diff_status(s);
-    reply::done(text, at, code)
+    reply::done(output, text, at, code)
 }
 
 // piece LEN SPAN, for row i of those that a delete put out
-fn piece(out: &[u8], i: usize, text: &mut [u8], at: usize) -> usize
+fn piece(out: &[u8], i: usize, output: &mut Output, text: &mut [u8], at: usize) -> usize
     ensures { Says at (piece_lines out.now i) text.old result text.new }
 {
     if i < out.len() / 72 {
-        reply::span(text, at, b"piece", store::get_row(out, i))
+        reply::span(output, text, at, b"piece", store::get_row(out, i))
     } else {
         at
     }
 }
 
 // The n pieces that a delete put out.
-fn pieces(out: &[u8], n: usize, text: &mut [u8], start: usize) -> usize
+fn pieces(out: &[u8], n: usize, output: &mut Output, text: &mut [u8], start: usize) -> usize
     ensures { Says start (pieces_lines out.now n) text.old result text.new }
 {
-    let mut at = reply::counted(text, start, b"pieces", n as u64);
+    let mut at = reply::counted(output, text, start, b"pieces", n as u64);
     let mut i = 0;
     while i < n {
-        at = piece(out, i, text, at);
+        at = piece(out, i, output, text, at);
         i += 1;
     }
     at
 }
 
-fn delete(x: Delete, s: &mut [u8], out: &mut [u8], text: &mut [u8], at: usize) -> usize
+fn delete(
+    x: Delete,
+    s: &mut [u8],
+    out: &mut [u8],
+    output: &mut Output,
+    text: &mut [u8],
+    at: usize,
+) -> usize
     ensures { DeleteSaid (delete_number s.old out.old x.pos x.len x.start x.reversed) (delete_list s.old x.pos x.len x.start) (pieces (spans_of s.old) x.pos x.len x.reversed) s.old out.old s.new out.new at text.old result text.new }
 {
     match rope::delete::delete(s, out, x.pos, x.len, x.start, x.reversed) {
-        DeleteAnswer::Done(n) => pieces(out, n, text, at),
-        DeleteAnswer::Refused(code) => reply::refused(text, at, code),
+        DeleteAnswer::Done(n) => pieces(out, n, output, text, at),
+        DeleteAnswer::Refused(code) => reply::refused(output, text, at, code),
     }
 }
 
@@ -72,7 +80,7 @@ fn future(set: SetFuture) -> units::change::SetFuture
     }
 }
 
-fn update(x: Update, s: &mut [u8], text: &mut [u8], at: usize) -> usize
+fn update(x: Update, s: &mut [u8], output: &mut Output, text: &mut [u8], at: usize) -> usize
     ensures { EditSaid (update_number s.old x.from.peer x.from.counter x.to.counter (set_of x.future) x.change x.on_diff) (update_list s.old x.from.peer x.from.counter x.to.counter (set_of x.future) x.change x.on_diff) s.old s.new at text.old result text.new }
 {
     let set = x.future;
@@ -85,15 +93,22 @@ fn update(x: Update, s: &mut [u8], text: &mut [u8], at: usize) -> usize
         x.change,
         x.on_diff,
     );
-    reply::done(text, at, code)
+    reply::done(output, text, at, code)
 }
 
-pub fn call(c: RopeCall, s: &mut [u8], out: &mut [u8], text: &mut [u8], at: usize) -> usize {
+pub fn call(
+    c: RopeCall,
+    s: &mut [u8],
+    out: &mut [u8],
+    output: &mut Output,
+    text: &mut [u8],
+    at: usize,
+) -> usize {
     match c {
-        RopeCall::Insert(x) => insert(x, s, text, at),
-        RopeCall::Delete(x) => delete(x, s, out, text, at),
-        RopeCall::Update(x) => update(x, s, text, at),
-        RopeCall::Clear => clear(s, text, at),
-        RopeCall::Diff => entries::diff(s, out.len() / 72, text, at),
+        RopeCall::Insert(x) => insert(x, s, output, text, at),
+        RopeCall::Delete(x) => delete(x, s, out, output, text, at),
+        RopeCall::Update(x) => update(x, s, output, text, at),
+        RopeCall::Clear => clear(s, output, text, at),
+        RopeCall::Diff => entries::diff(s, out.len() / 72, output, text, at),
     }
 }

@@ -5,6 +5,7 @@ ghost use Rattle.text.specs.Puts.{Puts};
 ghost use Rattle.session.specs.Say.{Says};
 ghost use Rattle.session.specs.Entries.{lamport_text, insert_line, entry_line, numbers_at, columns_lines, diff_lines, lent_entries};
 
+use crate::console::Output;
 use crate::reply;
 use rope::diff::{DiffAnswer, EntryNumbers};
 use script::print;
@@ -39,23 +40,23 @@ fn insert_line(text: &mut [u8], at: usize, x: EntryNumbers) -> usize
     put(text, at, b"\n")
 }
 
-fn inserted(text: &mut [u8], at: usize, x: EntryNumbers) -> usize
+fn inserted(output: &mut Output, text: &mut [u8], at: usize, x: EntryNumbers) -> usize
     ensures { Says at (insert_line x ∷ []) text.old result text.new }
 {
-    let at = reply::make_room(text, at);
+    let at = reply::make_room(output, text, at);
     insert_line(text, at, x)
 }
 
-fn entry(x: EntryNumbers, text: &mut [u8], at: usize) -> usize
+fn entry(x: EntryNumbers, output: &mut Output, text: &mut [u8], at: usize) -> usize
     ensures { Says at (entry_line x ∷ []) text.old result text.new }
 {
     if x.kind == 0 {
-        return reply::counted(text, at, b"retain", x.a as u64);
+        return reply::counted(output, text, at, b"retain", x.a as u64);
     }
     if x.kind == 1 {
-        return reply::counted(text, at, b"delete", x.a as u64);
+        return reply::counted(output, text, at, b"delete", x.a as u64);
     }
-    inserted(text, at, x)
+    inserted(output, text, at, x)
 }
 
 // ---- Columns
@@ -110,16 +111,17 @@ pub fn entries(
     counter: &[u32],
     lamport: &[u32],
     n: usize,
+    output: &mut Output,
     text: &mut [u8],
     start: usize,
 ) -> usize
     ensures { Says start (columns_lines kind.now a.now b.now peer.now counter.now lamport.now n) text.old result text.new }
 {
-    let mut at = reply::counted(text, start, b"entries", n as u64);
+    let mut at = reply::counted(output, text, start, b"entries", n as u64);
     let mut i = 0;
     while i < n {
         let x = numbers_at(kind, a, b, peer, counter, lamport, i);
-        at = entry(x, text, at);
+        at = entry(x, output, text, at);
         i += 1;
     }
     at
@@ -136,14 +138,15 @@ fn diff_into(
     peer: &mut [u64],
     counter: &mut [u32],
     lamport: &mut [u32],
+    output: &mut Output,
     text: &mut [u8],
     at: usize,
 ) -> usize
     ensures { Says at (diff_lines (least (length kind.old) (length a.old) (length b.old) (length peer.old) (length counter.old) (length lamport.old)) s.now) text.old result text.new }
 {
     match rope::diff::get_diff(s, kind, a, b, peer, counter, lamport) {
-        DiffAnswer::Done(n) => entries(kind, a, b, peer, counter, lamport, n, text, at),
-        DiffAnswer::Refused(code) => reply::refused(text, at, code),
+        DiffAnswer::Done(n) => entries(kind, a, b, peer, counter, lamport, n, output, text, at),
+        DiffAnswer::Refused(code) => reply::refused(output, text, at, code),
     }
 }
 
@@ -155,7 +158,7 @@ pub fn most(n: usize) -> usize
 }
 
 // The delta of a rope, with so many entries lent.
-pub fn diff(s: &[u8], room: usize, text: &mut [u8], at: usize) -> usize
+pub fn diff(s: &[u8], room: usize, output: &mut Output, text: &mut [u8], at: usize) -> usize
     ensures { Says at (diff_lines (lent_entries room) s.now) text.old result text.new }
 {
     let n = most(room);
@@ -173,6 +176,7 @@ pub fn diff(s: &[u8], room: usize, text: &mut [u8], at: usize) -> usize
         &mut peer[..n],
         &mut counter[..n],
         &mut lamport[..n],
+        output,
         text,
         at,
     )

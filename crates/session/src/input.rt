@@ -4,12 +4,13 @@ ghost use Rattle.words.specs.Le.{put};
 ghost use Rattle.text.specs.Parts.{after};
 ghost use Rattle.session.specs.Input.{between, held, has_line, past_line, past_first, ReadBehind, Refilled};
 
+use crate::console::{Input, Output};
 use crate::state::Session;
 use crate::{answer, reply};
 use text::parts::{before, find};
 
 // The bytes from..to of the buffer are read and not answered. `cut` says that the line that they belong to began before them.
-#[derive(Drop)]
+#[derive(Clone, Copy)]
 pub struct Reader {
     pub from: usize,
     pub to: usize,
@@ -17,14 +18,14 @@ pub struct Reader {
 }
 
 // After a turn: whether there is more to do.
-#[derive(Drop)]
+#[derive(Clone, Copy)]
 pub struct Turn {
     pub reader: Reader,
     pub session: Session,
     pub more: bool,
 }
 
-#[derive(Drop)]
+#[derive(Clone, Copy)]
 pub struct Filled {
     pub reader: Reader,
     pub more: bool,
@@ -83,6 +84,7 @@ fn next_line(
     targets: &mut [u8],
     edits: &mut [u8],
     out: &mut [u8],
+    output: &mut Output,
     text: &mut [u8],
 ) -> Turn
     ensures { (result.reader ≡ past_first bytes.now r) × (held bytes.now result.reader ≡ after 10 (held bytes.now r)) }
@@ -97,6 +99,7 @@ fn next_line(
         targets,
         edits,
         out,
+        output,
         text,
     );
     Turn {
@@ -115,10 +118,21 @@ fn last_line(
     targets: &mut [u8],
     edits: &mut [u8],
     out: &mut [u8],
+    output: &mut Output,
     text: &mut [u8],
 ) -> Turn {
-    let s = answer::line(unread(bytes, r), r.cut, s, store, targets, edits, out, text);
-    let at = reply::flush(text, s.at);
+    let s = answer::line(
+        unread(bytes, r),
+        r.cut,
+        s,
+        store,
+        targets,
+        edits,
+        out,
+        output,
+        text,
+    );
+    let at = reply::flush(output, text, s.at);
     Turn {
         reader: r,
         session: s.said(at),
@@ -140,18 +154,18 @@ fn to_front(bytes: &mut [u8], from: usize, to: usize) -> usize
 }
 
 // Reads behind what is held; a line that fills the buffer is dropped, and answered `error` at its end.
-fn fill(fd: i32, r: Reader, bytes: &mut [u8]) -> Filled
+fn fill(input: &mut Input, r: Reader, bytes: &mut [u8]) -> Filled
     ensures { Refilled bytes.old r result bytes.new }
 {
     let held = to_front(bytes, r.from, r.to);
     if held < bytes.len() {
-        read_behind(fd, held, r.cut, bytes)
+        read_behind(input, held, r.cut, bytes)
     } else {
-        read_behind(fd, 0, true, bytes)
+        read_behind(input, 0, true, bytes)
     }
 }
 
-fn read_behind(fd: i32, held: usize, cut: bool, bytes: &mut [u8]) -> Filled
+fn read_behind(input: &mut Input, held: usize, cut: bool, bytes: &mut [u8]) -> Filled
     ensures { ReadBehind held cut bytes.old result bytes.new }
 {
     if bytes.len() < held {
@@ -164,7 +178,7 @@ fn read_behind(fd: i32, held: usize, cut: bool, bytes: &mut [u8]) -> Filled
             more: false,
         };
     }
-    let n = read_some(fd, &mut bytes[held..]);
+    let n = read_some(input, &mut bytes[held..]);
     Filled {
         reader: Reader {
             from: 0,
@@ -175,16 +189,15 @@ fn read_behind(fd: i32, held: usize, cut: bool, bytes: &mut [u8]) -> Filled
     }
 }
 
-fn read_some(fd: i32, bytes: &mut [u8]) -> usize
+fn read_some(input: &mut Input, bytes: &mut [u8]) -> usize
     ensures { result ≤ length bytes.old }
 {
-    let got = libc::read(fd, bytes);
-    io::count(got, bytes)
+    input.read(bytes)
 }
 
 // Where no whole line is held: what was answered is written out, so that nobody waits for it, and more is read. At the end the last line is answered.
 fn refill(
-    fd: i32,
+    input: &mut Input,
     r: Reader,
     s: Session,
     store: &mut [u8],
@@ -192,10 +205,11 @@ fn refill(
     edits: &mut [u8],
     out: &mut [u8],
     bytes: &mut [u8],
+    output: &mut Output,
     text: &mut [u8],
 ) -> Turn {
-    let s = s.said(reply::flush(text, s.at));
-    let f = fill(fd, r, bytes);
+    let s = s.said(reply::flush(output, text, s.at));
+    let f = fill(input, r, bytes);
     let reader = f.reader;
     if f.more {
         return Turn {
@@ -204,12 +218,12 @@ fn refill(
             more: true,
         };
     }
-    last_line(bytes, reader, s, store, targets, edits, out, text)
+    last_line(bytes, reader, s, store, targets, edits, out, output, text)
 }
 
 // Answers one line, or reads.
 fn step(
-    fd: i32,
+    input: &mut Input,
     r: Reader,
     s: Session,
     store: &mut [u8],
@@ -217,23 +231,25 @@ fn step(
     edits: &mut [u8],
     out: &mut [u8],
     bytes: &mut [u8],
+    output: &mut Output,
     text: &mut [u8],
 ) -> Turn {
     if has_line(bytes, r) {
-        next_line(bytes, r, s, store, targets, edits, out, text)
+        next_line(bytes, r, s, store, targets, edits, out, output, text)
     } else {
-        refill(fd, r, s, store, targets, edits, out, bytes, text)
+        refill(input, r, s, store, targets, edits, out, bytes, output, text)
     }
 }
 
 // Answers line after line. Nothing says that a script ends, so the turns are counted down, from a number that no script uses up.
 pub fn lines(
-    fd: i32,
+    input: &mut Input,
     store: &mut [u8],
     targets: &mut [u8],
     edits: &mut [u8],
     out: &mut [u8],
     bytes: &mut [u8],
+    output: &mut Output,
     text: &mut [u8],
 ) {
     let mut s = Session::new();
@@ -245,8 +261,8 @@ pub fn lines(
     let mut turns = u64::MAX;
     while 0 < turns {
         turns -= 1;
-        let t = step(fd, r, s, store, targets, edits, out, bytes, text);
-        if !t.more {
+        let t = step(input, r, s, store, targets, edits, out, bytes, output, text);
+        if !t.more || output.has_failed() {
             return;
         }
         s = t.session;

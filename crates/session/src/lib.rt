@@ -1,46 +1,68 @@
 // A session of the lane program: the calls of a script answered one after the other (docs/SCRIPT.md), over a rope or a history in bytes that are lent here.
 //
 // `input` cuts what is read into lines, `answer` finds the call that a line says and who answers it, `calls` holds the calls of a rope with `entries` for its
-// delta, `history` those of a history with `applied` for its deltas, `look` what only reads or repairs the rows, `reply` the words of an answer. Each call of
+// delta, `history_calls` those of a history with `applied` for its deltas, `look` what only reads or repairs the rows, `reply` the words of an answer. Each call of
 // a library is one function: a new one is added to `answer` and to its file.
+#![tactic(auto)]
+
 pub mod answer;
 pub mod applied;
 pub mod calls;
+pub mod console;
 pub mod entries;
 pub mod front;
-pub mod history;
+pub mod history_calls;
 pub mod input;
 pub mod look;
 pub mod reply;
 pub mod state;
 pub mod versions;
 
-// Answers the script that is read from fd, to its end. The rows lent are 8,192 at most, after a header of a row's width.
-pub fn run(fd: i32) {
+use console::{Input, Output, Source};
+use std::io::Stdout;
+
+// Answers the script that is read, to its end. The rows lent are 8,192 at most, after a header of a row's width.
+pub fn run(source: Source, stdout: Stdout) -> std::io::Result<()> {
+    let mut input = Input::new(source);
+    let mut output = Output::new(stdout);
     let mut store = [0u8; 589896];
-    with_store(fd, &mut store)
+    with_store(&mut input, &mut store, &mut output);
+    console::end(input, output)
 }
 
 // Target ranges of 16 bytes, 8,192 at most.
-fn with_store(fd: i32, store: &mut [u8]) {
+fn with_store(input: &mut Input, store: &mut [u8], output: &mut Output) {
     let mut targets = [0u8; 131072];
-    with_targets(fd, store, &mut targets)
+    with_targets(input, store, &mut targets, output)
 }
 
 // The edits of a history: a header and 2,000 rows.
-fn with_targets(fd: i32, store: &mut [u8], targets: &mut [u8]) {
+fn with_targets(input: &mut Input, store: &mut [u8], targets: &mut [u8], output: &mut Output) {
     let mut edits = [0u8; 512064];
-    with_edits(fd, store, targets, &mut edits)
+    with_edits(input, store, targets, &mut edits, output)
 }
 
 // Pieces are put out into rows as wide as the store's, and items into the front of the same bytes.
-fn with_edits(fd: i32, store: &mut [u8], targets: &mut [u8], edits: &mut [u8]) {
+fn with_edits(
+    input: &mut Input,
+    store: &mut [u8],
+    targets: &mut [u8],
+    edits: &mut [u8],
+    output: &mut Output,
+) {
     let mut out = [0u8; 589824];
-    with_out(fd, store, targets, edits, &mut out)
+    with_out(input, store, targets, edits, &mut out, output)
 }
 
-fn with_out(fd: i32, store: &mut [u8], targets: &mut [u8], edits: &mut [u8], out: &mut [u8]) {
+fn with_out(
+    input: &mut Input,
+    store: &mut [u8],
+    targets: &mut [u8],
+    edits: &mut [u8],
+    out: &mut [u8],
+    output: &mut Output,
+) {
     let mut bytes = io::large_buffer();
     let mut text = io::large_buffer();
-    input::lines(fd, store, targets, edits, out, &mut bytes, &mut text)
+    input::lines(input, store, targets, edits, out, &mut bytes, output, &mut text)
 }

@@ -7,6 +7,7 @@ ghost use Rattle.session.specs.Say.{Says};
 ghost use Rattle.session.specs.Lines.{len_lines, at_lines, sum_lines, unit_lines, units_lines, span_lines, span_count, row_of, row_lines, row_count, rows_said, rows_lines, rows_count, kind_name, list_lines, sum_from, rope_sum, history_sum, within_lines, row_fits, rows_fit, row_set, rows_set, look_store, rope_look, history_look};
 ghost use Rattle.script.specs.Print.{head_line};
 
+use crate::console::Output;
 use crate::reply;
 use rope::query::{LenAnswer, RealAnswer};
 use script::call::Look;
@@ -15,7 +16,7 @@ use span::span::{FugueSpan, SpanAnswer};
 use store::header;
 use text::puts::{put, put_hex};
 
-#[derive(Drop)]
+#[derive(Clone, Copy)]
 pub enum Row {
     Is(FugueSpan),
     Nothing,
@@ -47,33 +48,33 @@ fn rows_of(s: &[u8]) -> usize
     }
 }
 
-fn len(a: LenAnswer, text: &mut [u8], at: usize) -> usize
+fn len(a: LenAnswer, output: &mut Output, text: &mut [u8], at: usize) -> usize
     ensures { Says at (len_lines a) text.old result text.new }
 {
     match a {
-        LenAnswer::Done(n) => reply::counted(text, at, b"len", n as u64),
-        LenAnswer::Refused(code) => reply::refused(text, at, code),
+        LenAnswer::Done(n) => reply::counted(output, text, at, b"len", n as u64),
+        LenAnswer::Refused(code) => reply::refused(output, text, at, code),
     }
 }
 
-fn at_pos(a: RealAnswer, text: &mut [u8], at: usize) -> usize
+fn at_pos(a: RealAnswer, output: &mut Output, text: &mut [u8], at: usize) -> usize
     ensures { Says at (at_lines a) text.old result text.new }
 {
     match a {
         RealAnswer::At(id, left) => {
-            let at = reply::make_room(text, at);
+            let at = reply::make_room(output, text, at);
             print::at_line(text, at, id, left)
         }
         RealAnswer::Nothing => {
-            let at = reply::make_room(text, at);
+            let at = reply::make_room(output, text, at);
             put(text, at, b"at nothing\n")
         }
-        RealAnswer::Refused(code) => reply::refused(text, at, code),
+        RealAnswer::Refused(code) => reply::refused(output, text, at, code),
     }
 }
 
 // What is printed of a list.
-#[derive(Drop)]
+#[derive(Clone, Copy)]
 pub enum Kind {
     Units,
     Spans,
@@ -81,27 +82,42 @@ pub enum Kind {
 }
 
 // One unit of a span: its line, or none where it is no item.
-fn unit(kind: Kind, x: FugueSpan, k: u32, next: u32, text: &mut [u8], at: usize) -> usize
+fn unit(
+    kind: Kind,
+    x: FugueSpan,
+    k: u32,
+    next: u32,
+    output: &mut Output,
+    text: &mut [u8],
+    at: usize,
+) -> usize
     ensures { Says at (unit_lines kind (slice_span_of x k next)) text.old result text.new }
 {
     match x.slice(k, next) {
         SpanAnswer::Done(u) => match kind {
-            Kind::Units => reply::unit(text, at, u),
+            Kind::Units => reply::unit(output, text, at, u),
             Kind::Spans => at,
-            Kind::Items => reply::item(text, at, u.real_id(), u.content),
+            Kind::Items => reply::item(output, text, at, u.real_id(), u.content),
         },
         SpanAnswer::Refused(_) => at,
     }
 }
 
-fn units(kind: Kind, x: FugueSpan, n: u32, text: &mut [u8], start: usize) -> usize
+fn units(
+    kind: Kind,
+    x: FugueSpan,
+    n: u32,
+    output: &mut Output,
+    text: &mut [u8],
+    start: usize,
+) -> usize
     ensures { Says start (units_lines kind x n) text.old result text.new }
 {
     let mut at = start;
     let mut k = 0;
     while k < n {
         let next = k + 1;
-        at = unit(kind, x, k, next, text, at);
+        at = unit(kind, x, k, next, output, text, at);
         k = next;
     }
     at
@@ -139,82 +155,89 @@ fn all_lines(kind: Kind, s: &[u8], n: usize) -> u64
     sum
 }
 
-fn row_lines(kind: Kind, x: FugueSpan, text: &mut [u8], at: usize) -> usize
+fn row_lines(kind: Kind, x: FugueSpan, output: &mut Output, text: &mut [u8], at: usize) -> usize
     ensures { Says at (span_lines kind x) text.old result text.new }
 {
     match kind {
-        Kind::Units => units(kind, x, x.rle_len(), text, at),
-        Kind::Spans => reply::span(text, at, b"span", x),
-        Kind::Items => units(kind, x, x.activated_len(), text, at),
+        Kind::Units => units(kind, x, x.rle_len(), output, text, at),
+        Kind::Spans => reply::span(output, text, at, b"span", x),
+        Kind::Items => units(kind, x, x.activated_len(), output, text, at),
     }
 }
 
-fn row_at(kind: Kind, s: &[u8], i: usize, text: &mut [u8], at: usize) -> usize
+fn row_at(kind: Kind, s: &[u8], i: usize, output: &mut Output, text: &mut [u8], at: usize) -> usize
     ensures { Says at (row_lines kind (row_of s.now i)) text.old result text.new }
 {
     match row_of(s, i) {
-        Row::Is(x) => row_lines(kind, x, text, at),
+        Row::Is(x) => row_lines(kind, x, output, text, at),
         Row::Nothing => at,
     }
 }
 
-fn rows(kind: Kind, s: &[u8], n: usize, text: &mut [u8], start: usize) -> usize
+fn rows(kind: Kind, s: &[u8], n: usize, output: &mut Output, text: &mut [u8], start: usize) -> usize
     ensures { Says start (rows_lines kind s.now n) text.old result text.new }
 {
     let mut at = start;
     let mut i = 0;
     while i < n {
-        at = row_at(kind, s, i, text, at);
+        at = row_at(kind, s, i, output, text, at);
         i += 1;
     }
     at
 }
 
-fn head(kind: Kind, n: u64, text: &mut [u8], at: usize) -> usize
+fn head(kind: Kind, n: u64, output: &mut Output, text: &mut [u8], at: usize) -> usize
     ensures { Says at (head_line (kind_name kind) n ∷ []) text.old result text.new }
 {
     match kind {
-        Kind::Units => reply::counted(text, at, b"units", n),
-        Kind::Spans => reply::counted(text, at, b"spans", n),
-        Kind::Items => reply::counted(text, at, b"list", n),
+        Kind::Units => reply::counted(output, text, at, b"units", n),
+        Kind::Spans => reply::counted(output, text, at, b"spans", n),
+        Kind::Items => reply::counted(output, text, at, b"list", n),
     }
 }
 
 // The list, a line for each unit, span or visible unit, where it is well formed.
-fn list(fine: bool, kind: Kind, s: &[u8], text: &mut [u8], at: usize) -> usize
+fn list(fine: bool, kind: Kind, s: &[u8], output: &mut Output, text: &mut [u8], at: usize) -> usize
     ensures { Says at (list_lines fine kind s.now) text.old result text.new }
 {
     if fine {
         let n = rows_of(s);
-        let at = head(kind, all_lines(kind, s, n), text, at);
-        rows(kind, s, n, text, at)
+        let at = head(kind, all_lines(kind, s, n), output, text, at);
+        rows(kind, s, n, output, text, at)
     } else {
-        reply::refused(text, at, 15)
+        reply::refused(output, text, at, 15)
     }
 }
 
 // Writes a row as it is said.
-pub fn put_row(s: &mut [u8], i: u32, x: FugueSpan, text: &mut [u8], at: usize) -> usize
+pub fn put_row(
+    s: &mut [u8],
+    i: u32,
+    x: FugueSpan,
+    output: &mut Output,
+    text: &mut [u8],
+    at: usize,
+) -> usize
     ensures { (Says at (within_lines (row_fits i s.old)) text.old result text.new) × (s.new ≡ row_set i x s.old) }
 {
     let row = (i as usize) + 1;
     if row < s.len() / 72 {
         store::put_row(s, row, x);
-        reply::ok(text, at)
+        reply::ok(output, text, at)
     } else {
-        reply::error(text, at)
+        reply::error(output, text, at)
     }
 }
 
 // Sets the number of rows as it is said.
-pub fn set_rows(s: &mut [u8], n: u32, text: &mut [u8], at: usize) -> usize
+pub fn set_rows(s: &mut [u8], n: u32, output: &mut Output, text: &mut [u8], at: usize) -> usize
     ensures { (Says at (within_lines (rows_fit n s.old)) text.old result text.new) × (s.new ≡ rows_set n s.old) }
 {
     if (n as usize) < s.len() / 72 {
         header::set_count(s, n as u64);
-        reply::ok(text, at)
+        reply::ok(output, text, at)
     } else {
-        reply::error(text, at)
+        reply::error(output, text, at)
     }
 }
 
@@ -231,10 +254,10 @@ fn sum_from(s: &[u8], start: u64) -> u64
     sum
 }
 
-fn put_sum(sum: u64, text: &mut [u8], at: usize) -> usize
+fn put_sum(sum: u64, output: &mut Output, text: &mut [u8], at: usize) -> usize
     ensures { Says at (sum_lines sum) text.old result text.new }
 {
-    let at = reply::make_room(text, at);
+    let at = reply::make_room(output, text, at);
     let at = put(text, at, b"sum ");
     let at = put_hex(text, at, sum);
     put(text, at, b"\n")
@@ -255,30 +278,45 @@ fn history_sum(s: &[u8], t: &[u8], e: &[u8], out: &[u8]) -> u64
     sum_from(out, sum_from(e, lists))
 }
 
-fn rope_list(kind: Kind, s: &[u8], text: &mut [u8], at: usize) -> usize
+fn rope_list(kind: Kind, s: &[u8], output: &mut Output, text: &mut [u8], at: usize) -> usize
     ensures { Says at (list_lines (is_state s.now) kind s.now) text.old result text.new }
 {
-    list(rope::state::check(s), kind, s, text, at)
+    list(rope::state::check(s), kind, s, output, text, at)
 }
 
-fn history_list(kind: Kind, s: &[u8], t: &[u8], e: &[u8], text: &mut [u8], at: usize) -> usize
+fn history_list(
+    kind: Kind,
+    s: &[u8],
+    t: &[u8],
+    e: &[u8],
+    output: &mut Output,
+    text: &mut [u8],
+    at: usize,
+) -> usize
     ensures { Says at (list_lines (is_history s.now t.now e.now) kind s.now) text.old result text.new }
 {
-    list(tracker::check::check(s, t, e), kind, s, text, at)
+    list(tracker::check::check(s, t, e), kind, s, output, text, at)
 }
 
-pub fn look_at_rope(l: Look, s: &mut [u8], out: &[u8], text: &mut [u8], at: usize) -> usize
+pub fn look_at_rope(
+    l: Look,
+    s: &mut [u8],
+    out: &[u8],
+    output: &mut Output,
+    text: &mut [u8],
+    at: usize,
+) -> usize
     ensures { (Says at (rope_look l s.old out.now) text.old result text.new) × (s.new ≡ look_store l s.old) }
 {
     match l {
-        Look::At(pos) => at_pos(rope::query::active_real_span_at(s, pos), text, at),
-        Look::Len => len(rope::query::visible_len(s), text, at),
-        Look::Dump => rope_list(Kind::Units, s, text, at),
-        Look::Spans => rope_list(Kind::Spans, s, text, at),
-        Look::Visible => rope_list(Kind::Items, s, text, at),
-        Look::Row(i, x) => put_row(s, i, x, text, at),
-        Look::Rows(n) => set_rows(s, n, text, at),
-        Look::Sum => put_sum(rope_sum(s, out), text, at),
+        Look::At(pos) => at_pos(rope::query::active_real_span_at(s, pos), output, text, at),
+        Look::Len => len(rope::query::visible_len(s), output, text, at),
+        Look::Dump => rope_list(Kind::Units, s, output, text, at),
+        Look::Spans => rope_list(Kind::Spans, s, output, text, at),
+        Look::Visible => rope_list(Kind::Items, s, output, text, at),
+        Look::Row(i, x) => put_row(s, i, x, output, text, at),
+        Look::Rows(n) => set_rows(s, n, output, text, at),
+        Look::Sum => put_sum(rope_sum(s, out), output, text, at),
     }
 }
 
@@ -288,19 +326,25 @@ pub fn look_at_history(
     t: &[u8],
     e: &[u8],
     out: &[u8],
+    output: &mut Output,
     text: &mut [u8],
     at: usize,
 ) -> usize
     ensures { (Says at (history_look l s.old t.now e.now out.now) text.old result text.new) × (s.new ≡ look_store l s.old) }
 {
     match l {
-        Look::At(pos) => at_pos(tracker::query::active_real_span_at(s, t, e, pos), text, at),
-        Look::Len => len(tracker::query::visible_len(s, t, e), text, at),
-        Look::Dump => history_list(Kind::Units, s, t, e, text, at),
-        Look::Spans => history_list(Kind::Spans, s, t, e, text, at),
-        Look::Visible => history_list(Kind::Items, s, t, e, text, at),
-        Look::Row(i, x) => put_row(s, i, x, text, at),
-        Look::Rows(n) => set_rows(s, n, text, at),
-        Look::Sum => put_sum(history_sum(s, t, e, out), text, at),
+        Look::At(pos) => at_pos(
+            tracker::query::active_real_span_at(s, t, e, pos),
+            output,
+            text,
+            at,
+        ),
+        Look::Len => len(tracker::query::visible_len(s, t, e), output, text, at),
+        Look::Dump => history_list(Kind::Units, s, t, e, output, text, at),
+        Look::Spans => history_list(Kind::Spans, s, t, e, output, text, at),
+        Look::Visible => history_list(Kind::Items, s, t, e, output, text, at),
+        Look::Row(i, x) => put_row(s, i, x, output, text, at),
+        Look::Rows(n) => set_rows(s, n, output, text, at),
+        Look::Sum => put_sum(history_sum(s, t, e, out), output, text, at),
     }
 }

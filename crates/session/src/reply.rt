@@ -6,6 +6,7 @@ ghost use Rattle.script.specs.Print.{head_line, unit_line, span_line, item_line}
 ghost use Rattle.session.specs.Say.{line_start, Says};
 ghost use Rattle.session.specs.Lines.{ok_lines, error_lines, refused_lines, done_lines};
 
+use crate::console::Output;
 use script::print;
 use span::chunk::RichtextChunk;
 use span::ids::Id;
@@ -20,80 +21,90 @@ pub fn within(n: usize, buffer: &[u8]) -> usize
 }
 
 // Writes the answer out, and answers where the next one starts.
-pub fn flush(text: &[u8], at: usize) -> usize
+pub fn flush(output: &mut Output, text: &[u8], at: usize) -> usize
     ensures { result ≡ 0 }
 {
     let n = within(at, text);
-    io::write_all(1, &text[..n]);
+    output.write(&text[..n]);
     0
 }
 
 // Writes the answer out where the buffer might not take another line, of 1,024 bytes at most.
-pub fn make_room(text: &[u8], at: usize) -> usize
+pub fn make_room(output: &mut Output, text: &[u8], at: usize) -> usize
     ensures { result ≡ line_start at }
 {
-    if at < 64512 { at } else { flush(text, at) }
+    if at < 64512 {
+        at
+    } else {
+        flush(output, text, at)
+    }
 }
 
-pub fn ok(text: &mut [u8], at: usize) -> usize
+pub fn ok(output: &mut Output, text: &mut [u8], at: usize) -> usize
     ensures { Says at ok_lines text.old result text.new }
 {
-    let at = make_room(text, at);
+    let at = make_room(output, text, at);
     put(text, at, b"ok\n")
 }
 
-pub fn error(text: &mut [u8], at: usize) -> usize
+pub fn error(output: &mut Output, text: &mut [u8], at: usize) -> usize
     ensures { Says at error_lines text.old result text.new }
 {
-    let at = make_room(text, at);
+    let at = make_room(output, text, at);
     put(text, at, b"error\n")
 }
 
-pub fn refused(text: &mut [u8], at: usize, code: u8) -> usize
+pub fn refused(output: &mut Output, text: &mut [u8], at: usize, code: u8) -> usize
     ensures { Says at (refused_lines code) text.old result text.new }
 {
-    counted(text, at, b"no", code as u64)
+    counted(output, text, at, b"no", code as u64)
 }
 
 // ok, or the refusal
-pub fn done(text: &mut [u8], at: usize, code: u8) -> usize
+pub fn done(output: &mut Output, text: &mut [u8], at: usize, code: u8) -> usize
     ensures { Says at (done_lines code) text.old result text.new }
 {
     if code == 0 {
-        ok(text, at)
+        ok(output, text, at)
     } else {
-        refused(text, at, code)
+        refused(output, text, at, code)
     }
 }
 
 // A name and a number.
-pub fn counted(text: &mut [u8], at: usize, name: &[u8], n: u64) -> usize
+pub fn counted(output: &mut Output, text: &mut [u8], at: usize, name: &[u8], n: u64) -> usize
     ensures { Says at (head_line name.now n ∷ []) text.old result text.new }
 {
-    let at = make_room(text, at);
+    let at = make_room(output, text, at);
     print::head(text, at, name, n)
 }
 
 // unit UNIT
-pub fn unit(text: &mut [u8], at: usize, x: FugueSpan) -> usize
+pub fn unit(output: &mut Output, text: &mut [u8], at: usize, x: FugueSpan) -> usize
     ensures { Says at (unit_line x ∷ []) text.old result text.new }
 {
-    let at = make_room(text, at);
+    let at = make_room(output, text, at);
     print::unit_line(text, at, x)
 }
 
 // span LEN SPAN, and piece LEN SPAN
-pub fn span(text: &mut [u8], at: usize, name: &[u8], x: FugueSpan) -> usize
+pub fn span(output: &mut Output, text: &mut [u8], at: usize, name: &[u8], x: FugueSpan) -> usize
     ensures { Says at (span_line name.now (len_span x) x ∷ []) text.old result text.new }
 {
-    let at = make_room(text, at);
+    let at = make_room(output, text, at);
     print::span_line(text, at, name, x.rle_len(), x)
 }
 
 // item ID CHUNK
-pub fn item(text: &mut [u8], at: usize, id: Id, content: RichtextChunk) -> usize
+pub fn item(
+    output: &mut Output,
+    text: &mut [u8],
+    at: usize,
+    id: Id,
+    content: RichtextChunk,
+) -> usize
     ensures { Says at (item_line id content ∷ []) text.old result text.new }
 {
-    let at = make_room(text, at);
+    let at = make_room(output, text, at);
     print::item_line(text, at, id, content)
 }

@@ -2,14 +2,14 @@
 ghost use Rattle.std.specs.Prelude.{◌≡◌};
 ghost use Rattle.session.specs.Sessions.{new_session, said_to, with_room, with_targets, with_out, opened_as};
 
-#[derive(Drop)]
+#[derive(Clone, Copy)]
 pub enum Open {
     Nothing,
     Rope,
     History,
 }
 
-#[derive(Drop)]
+#[derive(Clone, Copy)]
 pub struct Session {
     // What is open, and the rows and target rows lent to it.
     pub open: Open,

@@ -1,10 +1,11 @@
 // The input as lines, and the counts of what they came to.
 use crate::calls::{agrees, count};
 use crate::line::numbers;
-use libc::{STDIN_FILENO, STDOUT_FILENO};
+use std::io;
+use std::io::{Read, Stdin};
 
 // `used` bytes of the line that is being read have come.
-#[derive(Drop)]
+#[derive(Clone, Copy)]
 pub struct Tally {
     pub used: usize,
     pub lines: u64,
@@ -14,7 +15,7 @@ pub struct Tally {
     pub at_end: bool,
 }
 
-#[derive(Drop)]
+#[derive(Clone, Copy)]
 pub enum Outcome {
     Agrees,
     Differs,
@@ -50,17 +51,15 @@ fn more(n: u64) -> u64 {
     if n < 18446744073709551615 { n + 1 } else { n }
 }
 
-fn print_line(what: &[u8], number: u64, line: &[u8]) {
-    io::write_all(STDOUT_FILENO, what);
-    io::write_all(STDOUT_FILENO, b" line ");
-    io::print_decimal(STDOUT_FILENO, number);
-    io::write_all(STDOUT_FILENO, b": ");
-    io::write_all(STDOUT_FILENO, line);
-    io::write_all(STDOUT_FILENO, b"\n");
+fn print_line(rt: &impl Print, what: &[u8], number: u64, line: &[u8]) -> io::Result<()> {
+    rt.write_all(what)?;
+    print!(rt; " line {number}: ")?;
+    rt.write_all(line)?;
+    rt.write_all(b"\n")
 }
 
 // A line has ended: a new one begins, and what this one came to is counted, and printed where it does not agree.
-fn ended(line: &[u8], tally: Tally) -> Tally {
+fn ended(rt: &impl Print, line: &[u8], tally: Tally) -> io::Result<Tally> {
     let mut t = tally;
     t.used = 0;
     t.lines = more(t.lines);
@@ -69,73 +68,72 @@ fn ended(line: &[u8], tally: Tally) -> Tally {
             t.agree = more(t.agree);
         }
         Outcome::Differs => {
-            print_line(b"differs,", t.lines, line);
+            print_line(rt, b"differs,", t.lines, line)?;
             t.differ = more(t.differ);
         }
         Outcome::Unread => {
-            print_line(b"not read,", t.lines, line);
+            print_line(rt, b"not read,", t.lines, line)?;
             t.unread = more(t.unread);
         }
         Outcome::Comment => {}
     }
-    t
+    Ok(t)
 }
 
 // The same where the line had no room.
-fn too_long(tally: Tally) -> Tally {
+fn too_long(rt: &impl Print, tally: Tally) -> io::Result<Tally> {
     let mut t = tally;
     t.used = 0;
     t.lines = more(t.lines);
     t.unread = more(t.unread);
-    print_line(b"not read,", t.lines, b"too long");
-    t
+    print_line(rt, b"not read,", t.lines, b"too long")?;
+    Ok(t)
 }
 
 // A byte of the input. A line that fills the buffer has no room.
-fn byte(line: &mut [u8], tally: Tally, b: u8) -> Tally {
+fn byte(rt: &impl Print, line: &mut [u8], tally: Tally, b: u8) -> io::Result<Tally> {
     let used = tally.used;
     let mut t = tally;
     if used < line.len() {
         if b == b'\n' {
-            return ended(&line[..used], t);
+            return ended(rt, &line[..used], t);
         }
         line[used] = b;
         t.used = used + 1;
-        return t;
+        return Ok(t);
     }
     if b == b'\n' {
-        return too_long(t);
+        return too_long(rt, t);
     }
-    t
+    Ok(t)
 }
 
-fn bytes(block: &[u8], line: &mut [u8], tally: Tally) -> Tally {
+fn bytes(rt: &impl Print, block: &[u8], line: &mut [u8], tally: Tally) -> io::Result<Tally> {
     let mut t = tally;
-    let mut i = 0;
-    while i < block.len() {
-        let b = block[i];
-        let next = byte(line, t, b);
-        t = next;
-        i += 1;
+    for b in block {
+        t = byte(rt, line, t, *b)?;
     }
-    t
+    Ok(t)
 }
 
 // Reads once. At the end of the input a last line without its end is a line too.
-pub fn block(line: &mut [u8], tally: Tally) -> Tally {
-    let mut buf = io::large_buffer();
-    let got = libc::read(STDIN_FILENO, &mut buf);
-    let n = io::count(got, &buf);
+pub fn block(
+    rt: &impl Print,
+    input: &mut Stdin,
+    line: &mut [u8],
+    tally: Tally,
+) -> io::Result<Tally> {
+    let mut buf = [0u8; 65536];
+    let n = input.read(&mut buf)?;
     if n == 0 {
         let mut last = tally;
         if 0 < tally.used {
-            let t = byte(line, tally, b'\n');
-            last = t;
+            last = byte(rt, line, tally, b'\n')?;
         }
         last.at_end = true;
-        return last;
+        return Ok(last);
     }
-    bytes(&buf[..n], line, tally)
+    bytes(rt, &buf[..n], line, tally)
 }
 
 impl Tally {
@@ -150,12 +148,13 @@ impl Tally {
         }
     }
 
-    pub fn print(self) {
-        io::print_decimal(STDOUT_FILENO, self.agree);
-        io::write_all(STDOUT_FILENO, b" calls agree, ");
-        io::print_decimal(STDOUT_FILENO, self.differ);
-        io::write_all(STDOUT_FILENO, b" differ, ");
-        io::print_decimal(STDOUT_FILENO, self.unread);
-        io::write_all(STDOUT_FILENO, b" lines not read\n");
+    pub fn print(self, rt: &impl Print) -> io::Result<()> {
+        let Tally {
+            agree,
+            differ,
+            unread,
+            ..
+        } = self;
+        println!(rt; "{agree} calls agree, {differ} differ, {unread} lines not read")
     }
 }

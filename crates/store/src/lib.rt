@@ -1,4 +1,6 @@
 // The span store: spans in rows of 72 bytes of a lent buffer, read, written, inserted and removed.
+#![tactic(auto)]
+
 pub mod header;
 pub mod limits;
 
@@ -169,7 +171,7 @@ pub fn wide16(x: u16) -> u32
 }
 
 // The words of a row: what stands in the bytes, before it means anything. The last four bytes of a row are spare.
-#[derive(Drop)]
+#[derive(Clone, Copy)]
 pub struct Words {
     pub p0: u64,
     pub p1: u64,

@@ -10,7 +10,7 @@ use lib.Dec.{eqb}
 use lib.IntN.{ℤ, pos, negsuc}
 use lib.ListN.{length, get_or, length-append}
 use lib.Seq.{take-length, take-append_seam, drop-append-add}
-use Rattle.bytes.specs.Bytes.{index_after, index_of}
+use Rattle.text.specs.Bytes.{index_after, index_of}
 use Rattle.text.specs.Numbers.{is_digit, all_digits, numeral, int_text}
 use Rattle.text.specs.Parts.{before, after, rest, part, parts, same_text}
 use Rattle.text.proofs.NumeralLaws.{numeral_digits}

@@ -129,3 +129,27 @@ module _ (at : ℕ) (v w s : List ℕ) where
 -- a put after another
 pub puts_then : (at : ℕ) (v w s : List ℕ) {a b : ℕ} {s1 s2 : List ℕ} → Puts at v s a s1 → Puts a w s1 b s2 → Puts at (v ++ w) s b s2
 puts_then at v w s p q = (q.0 ∙ rw (p.0, p.1) (placed-append at v w s), q.1 ∙ rw (p.0, p.1) (written-append at v w s))
+
+-- the same of a slice copied to the part from at on
+module _ (at : ℕ) (w s : List ℕ) where
+  pub part_fits : at + length w ≤ length s → take at s ++ (w ++ drop (at + length w - at) (drop at s)) ≡ written at w s
+  unfolding put
+  part_fits h =
+      let e : at + length w - at ≡ length w = omega arith in
+      ap (λ (n : ℕ). take at s ++ (w ++ drop n (drop at s))) e
+      ∙ ap (λ (l : List ℕ). take at s ++ (w ++ l)) (drop-drop (length w) at s)
+      ∙ sym (append_assoc (take at s) w (drop (at + length w) s))
+      ∙ sym (written_whole at w s h)
+
+  pub part_cut : at ≤ length s → length s < at + length w
+      → take at s ++ (take (length s - at) w ++ drop (length s - at) (drop at s)) ≡ written at w s
+  part_cut h o = ap (λ (l : List ℕ). take at s ++ (l ++ drop (length s - at) (drop at s))) (sym inner) ∙ written_cut at w s h o
+    where
+      le : length s - at ≤ length s - at
+      le = omega arith
+
+      short : length (take (length s - at) (drop at s)) ≤ length s - at
+      short = rw (length-take-le (length s - at) (drop at s) (rw length-drop le)) le
+
+      inner : take (length s - at) (take (length s - at) w) ++ drop (length s - at) (take (length s - at) (drop at s)) ≡ take (length s - at) w
+      inner = rw (take-take (length s - at) (length s - at) w le, drop_of_length-le (take (length s - at) (drop at s)) {i = length s - at} short, append-nil)

@@ -1,3 +1,4 @@
+pub mod Bytes
 pub mod Ascii
 pub mod Parts
 pub mod Numbers

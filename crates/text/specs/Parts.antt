@@ -1,6 +1,6 @@
 -- a text cut at a byte b: what stands before the first b, what after it, and the part between two
 use Rattle.std.specs.Prelude.{ℕ, zero, suc, Bool, true, false, ◌&&◌, List, [], ◌∷◌, length, take, drop, if◌then◌else◌, slice_index, ◌==◌}
-use Rattle.bytes.specs.Bytes.{index_of}
+use Rattle.text.specs.Bytes.{index_of}
 
 -- all of it, where there is no b
 abbrev pub before : ℕ → List ℕ → List ℕ

@@ -1,6 +1,6 @@
 // A text cut at a byte: a line's words at blanks, a version's pairs at commas, an id at its dot.
 ghost use Rattle.std.specs.Prelude.{◌≡◌, ◌≤◌, length, take, drop};
-ghost use Rattle.bytes.specs.Bytes.{index_of};
+ghost use Rattle.text.specs.Bytes.{index_of};
 ghost use Rattle.text.specs.Parts as spec;
 ghost use Rattle.text.specs.Parts.{kept, front, trimmed, same_text};
 
@@ -8,7 +8,14 @@ ghost use Rattle.text.specs.Parts.{kept, front, trimmed, same_text};
 pub fn find(s: &[u8], b: u8) -> usize
     ensures { (result ≡ index_of b s.now) × (result ≤ length s.now) }
 {
-    bytes::scan::find(s, 0, s.len(), b)
+    let mut i = 0;
+    while i < s.len() {
+        if s[i] == b {
+            return i;
+        }
+        i += 1;
+    }
+    i
 }
 
 // What stands before the first b: all of it, where there is none.

@@ -16,11 +16,12 @@ pub fn put(out: &mut [u8], at: usize, w: &[u8]) -> usize
     }
     let left = room - at;
     if left < w.len() {
-        bytes::copy(&w[..left], &mut out[at..]);
+        out[at..].copy_from_slice(&w[..left]);
         return room + 1;
     }
-    bytes::copy(w, &mut out[at..]);
-    at + w.len()
+    let end = at + w.len();
+    out[at..end].copy_from_slice(w);
+    end
 }
 
 // The number's digits, with no zero in front.

@@ -23,7 +23,7 @@ use store::header;
 use store::limits::PEERS;
 
 // The number of the refusal, or 0 and what the writing needs: edits, rows, rows with both statuses, rows at A.
-#[derive(Drop)]
+#[derive(Clone, Copy)]
 pub struct Ready {
     pub code: u8,
     pub edits: usize,

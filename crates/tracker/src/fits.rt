@@ -23,7 +23,7 @@ use span::span::FugueSpan;
 use units::place::Verdict;
 
 // A cursor: so many units of a piece are before it; row and from are the place behind the piece.
-#[derive(Drop)]
+#[derive(Clone, Copy)]
 pub struct Left {
     pub piece: FugueSpan,
     pub skip: u32,

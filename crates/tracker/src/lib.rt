@@ -1,5 +1,7 @@
 // The history in lent bytes: its spans in a rope's store, its edits with their contexts, and the target ranges of its deletes. What the bytes say is
 // `history_in`, a history of crate history's definitions. Inner functions take rows from the header on, and require what the entries asked.
+#![tactic(auto)]
+
 pub mod act;
 pub mod arrive;
 pub mod check;

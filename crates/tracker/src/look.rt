@@ -18,21 +18,21 @@ use span::ids::{Id, UNKNOWN_PEER};
 use span::status::Status;
 
 // A status, and how many units have it.
-#[derive(Drop)]
+#[derive(Clone, Copy)]
 pub struct Reach {
     pub status: Status,
     pub len: u32,
 }
 
 // What a test says, and of how many units.
-#[derive(Drop)]
+#[derive(Clone, Copy)]
 pub struct Found {
     pub hit: bool,
     pub len: u32,
 }
 
 // How many deletes took a unit, and of how many units that holds.
-#[derive(Drop)]
+#[derive(Clone, Copy)]
 pub struct Taken {
     pub times: u32,
     pub len: u32,

@@ -15,7 +15,7 @@ use span::ids::OptId;
 use span::span::{DiffStatus, FugueSpan};
 
 // Whether each insert has a real id, how many rows and entries there are, and the visible units since the last change.
-#[derive(Drop)]
+#[derive(Clone, Copy)]
 pub struct Measure {
     pub fine: bool,
     pub rows: usize,

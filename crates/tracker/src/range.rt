@@ -11,14 +11,14 @@ use span::ids::Id;
 use span::span::FugueSpan;
 
 // A range, or none yet.
-#[derive(Drop)]
+#[derive(Clone, Copy)]
 pub enum OptTarget {
     Nothing,
     Is(Target),
 }
 
 // The ranges taken so far: how many before the last one, and the last one.
-#[derive(Drop)]
+#[derive(Clone, Copy)]
 pub struct Taken {
     pub before: usize,
     pub last: OptTarget,

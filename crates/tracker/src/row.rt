@@ -14,28 +14,28 @@ use span::ids::Id;
 use store::limits::ROWS;
 
 // A pair of a version: a peer, and how many of its counters.
-#[derive(Drop)]
+#[derive(Clone, Copy)]
 pub struct Pair {
     pub peer: u64,
     pub many: i32,
 }
 
 // A range of ids that a delete took.
-#[derive(Drop)]
+#[derive(Clone, Copy)]
 pub struct Target {
     pub id: Id,
     pub len: u32,
 }
 
 // An insert's lamport and chunk; a delete's length, whether it is reversed, and its target start.
-#[derive(Drop)]
+#[derive(Clone, Copy)]
 pub enum Does {
     Insert(u32, RichtextChunk),
     Delete(u32, bool, Id),
 }
 
 // An edit without its context.
-#[derive(Drop)]
+#[derive(Clone, Copy)]
 pub struct Head {
     pub id: Id,
     pub at: u32,

@@ -7,7 +7,7 @@ use crate::arrive::arrive_row;
 use crate::check::check;
 
 // How many edits were taken, and the number of the one that was refused; 0 for none.
-#[derive(Drop)]
+#[derive(Clone, Copy)]
 pub struct Run {
     pub taken: usize,
     pub code: u8,

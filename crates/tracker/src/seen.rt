@@ -24,7 +24,7 @@ use span::span::{FugueSpan, OptStatus};
 use span::status::Status;
 
 // A piece, and the place behind it: a row, and a unit in it.
-#[derive(Drop)]
+#[derive(Clone, Copy)]
 pub struct Step {
     pub piece: FugueSpan,
     pub row: usize,

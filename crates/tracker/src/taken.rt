@@ -18,7 +18,7 @@ use span::ids::OptId;
 use span::span::FugueSpan;
 
 // How many ids of a range are found, and how many units of a row are passed.
-#[derive(Drop)]
+#[derive(Clone, Copy)]
 pub struct Walked {
     pub found: u32,
     pub passed: u32,

@@ -3,14 +3,14 @@ use span::chunk::RichtextChunk;
 use span::ids::Id;
 
 // A lamport, or none.
-#[derive(Drop)]
+#[derive(Clone, Copy)]
 pub enum OptLamport {
     Nothing,
     At(u32),
 }
 
 // An entry of a delta: so many visible units stay, so many go, or the units of a chunk come in, the first with this real id and lamport.
-#[derive(Drop)]
+#[derive(Clone, Copy)]
 pub enum Entry {
     Retain(u32),
     Delete(u32),

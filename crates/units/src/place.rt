@@ -3,7 +3,7 @@ ghost use Rattle.std.specs.Prelude.{◌≡◌, nat_lt, ◌==◌};
 ghost use Rattle.units.specs.Place.{by_pos, is_stop, after};
 
 // What a scanned span does to the placement: it ends it, sets or clears "holding", or leaves it.
-#[derive(Drop)]
+#[derive(Clone, Copy)]
 pub enum Verdict {
     Stop,
     Hold,

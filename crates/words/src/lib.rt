@@ -6,6 +6,8 @@
 // entry of the product is among them. Signed numbers are in `signed`, runs of bytes that move in `shift`.
 //
 // The sums and quotients below are the shape that the compiler turns into one load or one store.
+#![tactic(auto)]
+
 pub mod shift;
 pub mod signed;
 

@@ -1,0 +1,62 @@
+use Rattle.rope.proofs.Entering.{state_head, state_rows, state_few, span_asked, span_first, span_ready, span_full, span_writable, span_done}
+use Rattle.rope.proofs.edit.insert_span.Goals as goal
+
+pub count-n-requires : goal.count-n-requires
+count-n-requires c = state_head c.args.s.now c.requires.0
+
+pub slice_bounds-units-count : goal.slice_bounds-units-count
+slice_bounds-units-count c = state_head c.args.s.now c.requires.0
+
+pub slice_bounds-units-start : goal.slice_bounds-units-start
+slice_bounds-units-start c = state_head c.args.s.now c.requires.0
+
+pub units-sum-requires : goal.units-sum-requires
+units-sum-requires c = state_rows c.args.s.now c.requires.0 c.count-n.result c.count-n.ensures
+
+pub slice_bounds-first_code-count : goal.slice_bounds-first_code-count
+slice_bounds-first_code-count c = state_head c.args.s.now c.requires.0
+
+pub slice_bounds-first_code-start : goal.slice_bounds-first_code-start
+slice_bounds-first_code-start c = state_head c.args.s.now c.requires.0
+
+pub first_code-code-requires : goal.first_code-code-requires
+first_code-code-requires c =
+    let a = c.args in
+    span_asked a.s.now a.pos a.x c.requires.0 c.requires.1 c.count-n.result c.count-n.ensures c.units-sum.result c.units-sum.ensures
+
+pub returns-then-code-ne0 : goal.returns-then-code-ne0
+returns-then-code-ne0 c =
+    let a = c.args in
+    span_first a.s.now a.pos a.x c.requires.0 c.requires.1 c.count-n.result c.count-n.ensures c.units-sum.result c.units-sum.ensures c.first_code-code.result c.first_code-code.ensures c.if-code-ne0.true
+
+pub slice_bounds-plan_insert-count : goal.slice_bounds-plan_insert-count
+slice_bounds-plan_insert-count c = state_head c.args.s.now c.requires.0
+
+pub slice_bounds-plan_insert-start : goal.slice_bounds-plan_insert-start
+slice_bounds-plan_insert-start c = state_head c.args.s.now c.requires.0
+
+pub plan_insert-p-requires : goal.plan_insert-p-requires
+plan_insert-p-requires c =
+    let a = c.args in
+    span_ready a.s.now a.pos a.x c.requires.0 c.requires.1 c.count-n.result c.count-n.ensures c.units-sum.result c.units-sum.ensures c.first_code-code.result c.first_code-code.ensures c.if-code-ne0.false
+
+pub rows-requires : goal.rows-requires
+rows-requires c = state_few c.args.s.now c.requires.0 c.count-n.result c.count-n.ensures
+
+pub returns-then-room-rows : goal.returns-then-room-rows
+returns-then-room-rows c =
+    let a = c.args in
+    span_full a.s.now a.pos a.x c.requires.0 c.requires.1 c.count-n.result c.count-n.ensures c.units-sum.result c.units-sum.ensures c.first_code-code.result c.first_code-code.ensures c.if-code-ne0.false
+    c.plan_insert-p.result c.plan_insert-p.ensures c.room.result c.rows.result c.room.ensures c.rows.ensures c.if-room-rows.true
+
+pub write_plan-requires : goal.write_plan-requires
+write_plan-requires c =
+    let a = c.args in
+    span_writable a.s.now a.pos a.x c.requires.0 c.requires.1 c.count-n.result c.count-n.ensures c.units-sum.result c.units-sum.ensures c.first_code-code.result c.first_code-code.ensures c.if-code-ne0.false
+    c.plan_insert-p.result c.plan_insert-p.ensures c.room.result c.rows.result c.room.ensures c.rows.ensures c.if-room-rows.false
+
+pub returns : goal.returns
+returns c =
+    let a = c.args in
+    span_done a.s.now a.pos a.x c.requires.0 c.requires.1 c.count-n.result c.count-n.ensures c.units-sum.result c.units-sum.ensures c.first_code-code.result c.first_code-code.ensures c.if-code-ne0.false
+    c.plan_insert-p.result c.plan_insert-p.ensures c.room.result c.rows.result c.room.ensures c.rows.ensures c.if-room-rows.false _ c.write_plan.ensures

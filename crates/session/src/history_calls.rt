@@ -1,0 +1,98 @@
+// The calls of a history, each with its answer. A context or version is word 1 of the line; a delta's versions are words 1 and 2.
+ghost use Rattle.std.specs.Prelude.{◌≡◌};
+ghost use Rattle.session.specs.History.{Arrives, Goes};
+ghost use Rattle.session.specs.HistoryCalls.{insert_head, delete_head, HistorySays};
+
+use crate::console::Output;
+use crate::front::{front32, front64};
+use crate::versions::columns;
+use crate::{applied, reply};
+use script::call::{Arriving, HistoryCall, Insert};
+use script::field::word;
+use tracker::row::{Does, Head};
+
+fn inserting(x: Insert) -> Head
+    ensures { result ≡ insert_head x }
+{
+    let id = x.id;
+    let content = x.content;
+    Head {
+        id: id,
+        at: x.pos,
+        act: Does::Insert(x.lamport, content),
+    }
+}
+
+fn deleting(x: Arriving) -> Head
+    ensures { result ≡ delete_head x }
+{
+    let id = x.id;
+    let d = x.delete;
+    let start = d.start;
+    Head {
+        id: id,
+        at: d.pos,
+        act: Does::Delete(d.len, d.reversed, start),
+    }
+}
+
+// An edit arrives, with the context in w.
+fn arrive(
+    x: Head,
+    w: &[u8],
+    s: &mut [u8],
+    t: &mut [u8],
+    e: &mut [u8],
+    output: &mut Output,
+    text: &mut [u8],
+    at: usize,
+) -> usize
+    ensures { Arrives x w.now s.old t.old e.old at text.old result s.new t.new e.new text.new }
+{
+    let mut peers = [0u64; 32];
+    let mut counts = [0u32; 32];
+    let n = columns(w, &mut peers, &mut counts);
+    let code = tracker::arrive::arrive(s, t, e, x, front64(&peers, n), front32(&counts, n));
+    reply::done(output, text, at, code)
+}
+
+// The list goes to the version in w.
+fn checkout(
+    w: &[u8],
+    s: &mut [u8],
+    t: &[u8],
+    e: &[u8],
+    output: &mut Output,
+    text: &mut [u8],
+    at: usize,
+) -> usize
+    ensures { Goes w.now s.old t.now e.now at text.old result s.new text.new }
+{
+    let mut peers = [0u64; 32];
+    let mut counts = [0u32; 32];
+    let n = columns(w, &mut peers, &mut counts);
+    let code = tracker::checkout::checkout(s, t, e, front64(&peers, n), front32(&counts, n));
+    reply::done(output, text, at, code)
+}
+
+pub fn call(
+    c: HistoryCall,
+    line: &[u8],
+    s: &mut [u8],
+    t: &mut [u8],
+    e: &mut [u8],
+    out: &mut [u8],
+    output: &mut Output,
+    text: &mut [u8],
+    at: usize,
+) -> usize
+    ensures { HistorySays c line.now s.old t.old e.old out.old at text.old result s.new t.new e.new out.new text.new }
+{
+    match c {
+        HistoryCall::Insert(x) => arrive(inserting(x), word(line, 1), s, t, e, output, text, at),
+        HistoryCall::Delete(x) => arrive(deleting(x), word(line, 1), s, t, e, output, text, at),
+        HistoryCall::Checkout => checkout(word(line, 1), s, t, e, output, text, at),
+        HistoryCall::Delta => applied::delta(line, s, t, e, out.len() / 72, output, text, at),
+        HistoryCall::Applied => applied::applied(line, s, t, e, out, output, text, at),
+    }
+}

@@ -1,0 +1,9 @@
+use Rattle.span.proofs.AnswerLaws.{is_done, is_refused}
+use Rattle.span.specs.declared.chunk.ChunkAnswer.TheVariants.{Done, Refused}
+use Rattle.span.proofs.chunk.RichtextChunk.merge_right.Goals as goal
+
+pub returns-then-code-eq0 : goal.returns-then-code-eq0
+returns-then-code-eq0 c = is_done Done Refused _ (cc) c.merged.ensures
+
+pub returns-else-code-eq0 : goal.returns-else-code-eq0
+returns-else-code-eq0 c = is_refused Done Refused _ _ _ c.if-code-eq0.false c.check_merge-code.ensures

@@ -1,0 +1,9 @@
+use Rattle.span.specs.declared.span.SpanAnswer.TheVariants.{Done, Refused}
+use Rattle.span.proofs.AnswerLaws.{is_done, is_refused}
+use Rattle.span.proofs.span.FugueSpan.new.Goals as goal
+
+pub returns-then-code-eq0 : goal.returns-then-code-eq0
+returns-then-code-eq0 c = is_done Done Refused _ (cc) c.fresh-span.ensures
+
+pub returns-else-code-eq0 : goal.returns-else-code-eq0
+returns-else-code-eq0 c = is_refused Done Refused _ _ _ c.if-code-eq0.false (cc)

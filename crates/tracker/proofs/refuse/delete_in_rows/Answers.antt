@@ -1,0 +1,40 @@
+use Rattle.tracker.proofs.TakenLaws.{stored_few}
+use Rattle.tracker.specs.Arrivals.{units_seen, delete_fits}
+use Rattle.tracker.proofs.Rests.{seen_length}
+use Rattle.tracker.proofs.Roomy.{delete_roomy}
+use borrow.Author.Tests.{le-leb, lt-leb}
+use mathlib.Core.Path.{sym, ap, ◌∙◌}
+use mathlib.Core.Bool.{Bool, ◌&&◌}
+use Prim.Native.Nat.{ℕ}
+use lib.Dec.{leb}
+use lib.ListN.{length}
+use Rattle.span.specs.Units.{join}
+use Rattle.units.specs.Limits.{fits}
+use Rattle.units.specs.Change.{delete_units}
+use native.Mathlib.Omega.{arith}
+use Rattle.tracker.proofs.refuse.delete_in_rows.Goals as goal
+
+pub units-requires : goal.units-requires
+units-requires c =
+    let x = c.args in
+    (c.requires.0.sees.stored.long, stored_few x.n x.s.now c.requires.0.sees.stored)
+
+pub returns-then-units-most : goal.returns-then-units-most
+returns-then-units-most c =
+    let x = c.args in let us = units_seen x.n x.s.now x.h x.e.now x.t.now x.m x.v.now in
+    let len = seen_length x.n x.s.now x.h x.e.now x.t.now x.m x.v.now in
+    delete_roomy us x.d x.most (omega (arith, c.if-units-most.true, c.units.ensures, len))
+
+pub returns-then-most-count_seen : goal.returns-then-most-count_seen
+unfolding delete_fits fits
+returns-then-most-count_seen c =
+    let x = c.args in let us = units_seen x.n x.s.now x.h x.e.now x.t.now x.m x.v.now in
+    let len = seen_length x.n x.s.now x.h x.e.now x.t.now x.m x.v.now in
+    sym (ap (λ (b : Bool). b && leb (length (join (delete_units x.d.at x.d.len x.d.start us))) x.most) (lt-leb (length (join us)) x.most (omega (arith, c.if-most-count_seen.true, c.count_seen.ensures))))
+
+pub returns : goal.returns
+unfolding delete_fits fits
+returns c =
+    let x = c.args in let us = units_seen x.n x.s.now x.h x.e.now x.t.now x.m x.v.now in
+    let len = seen_length x.n x.s.now x.h x.e.now x.t.now x.m x.v.now in
+    ap (λ (k : ℕ). leb k x.most) c.count_deleted.ensures ∙ sym (ap (λ (b : Bool). b && leb (length (join (delete_units x.d.at x.d.len x.d.start us))) x.most) (le-leb (length (join us)) x.most (omega (arith, c.if-most-count_seen.false, c.count_seen.ensures))))

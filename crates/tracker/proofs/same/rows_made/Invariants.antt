@@ -1,0 +1,13 @@
+use Rattle.tracker.specs.Made.{made_in, all_made}
+use Rattle.store.specs.Row.{rows}
+use Rattle.span.specs.Units.{expand}
+use lib.ListN.{drop}
+use mathlib.Core.Path.{◌≡◌}
+use Prim.Native.Nat.{◌-◌, ◌≤◌}
+use Rattle.tracker.proofs.same.rows_made.Given as goal
+
+abbrev pub invariant-loop-i : goal.invariant-loop-i
+invariant-loop-i l = (l.i ≤ l.n) × (all_made (made_in l.p l.h l.e) (expand (rows l.n l.s)) ≡ all_made (made_in l.p l.h l.e) (expand (drop l.i (rows l.n l.s))))
+
+abbrev pub decreases-loop-i : goal.decreases-loop-i
+decreases-loop-i l = l.n - l.i
