@@ -1,4 +1,4 @@
-//! The history's entries as machine code: what the archive of crate bench exports. Shared by the tests that link it.
+//! The history's entries as machine code: what the archive of crate bench_c exports. Shared by the tests that link it.
 #![allow(dead_code)]
 
 // A lent slice is a pointer and a length.

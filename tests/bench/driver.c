@@ -1,5 +1,5 @@
 // How the price of the check and of each question grows with the rows of a store. The driver owns the memory: it writes the rows of a well
-// formed store (16 peers, each row one text unit after the row before it) and calls the archive of crate bench.
+// formed store (16 peers, each row one text unit after the row before it) and calls the archive of crate bench_c.
 #include <stdbool.h>
 #include <stdint.h>
 #include <stdio.h>

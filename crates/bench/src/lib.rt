@@ -1,4 +1,4 @@
-// Questions to a store and the calls of a history, exported for the programs in tests/: they own the memory.
+// Questions to a store and the calls of a history, for the programs in tests/, which own the memory. Crate `bench_c` exports them.
 #![tactic(auto)]
 
 use rope::diff::DiffAnswer;

@@ -1,4 +1,4 @@
--- No line of an answer is cut: a buffer of 65,536 bytes takes any line of 1,024 bytes where one starts (`said_fits`), and no line is longer (`short-…`).
+-- No line of an answer is cut: a buffer of 65,536 bytes takes any line of 1,024 bytes where one starts (`said_fits`), and no line is longer (`short_…`).
 use Rattle.std.proofs.Common.{◌≡◌, ℕ, zero, suc, ◌+◌, ◌*◌, ◌/◌, ◌%◌, ◌^◌, ◌<◌, ◌≤◌, Bool, true, false, cond, eqb, ltb, List, [], ◌∷◌, ◌++◌, length, ℤ, pos, negsuc, sym, refl, ◌∙◌, arith, length-append, ltb-true}
 use Rattle.io.specs.Digits.{last_digits}
 use Rattle.words.specs.Le.{put}

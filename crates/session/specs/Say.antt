@@ -26,7 +26,7 @@ unfoldable pub up_to : (ℕ → List (List ℕ)) → ℕ → List (List ℕ)
 up_to f zero = []
 up_to f (suc n) = up_to f n ++ f n
 
--- ---------------------------------------------------------------- where every line fits whole (proofs/ShortLaws, said-fits)
+-- ---------------------------------------------------------------- where every line fits whole (proofs/ShortLaws, said_fits)
 
 -- lines of 1,024 bytes at most
 unfoldable pub Short : List (List ℕ) → Type 0

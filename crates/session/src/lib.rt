@@ -64,5 +64,7 @@ fn with_out(
 ) {
     let mut bytes = io::large_buffer();
     let mut text = io::large_buffer();
-    input::lines(input, store, targets, edits, out, &mut bytes, output, &mut text)
+    input::lines(
+        input, store, targets, edits, out, &mut bytes, output, &mut text,
+    )
 }

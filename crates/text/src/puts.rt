@@ -1,5 +1,5 @@
 // Bytes and numbers put into a lent buffer at a place, as many as fit. The answer is the place after them: just past the buffer's end where they did not fit
-// whole, and nothing fits there, so a row of puts is one put of all their bytes (`Puts-then`).
+// whole, and nothing fits there, so a row of puts is one put of all their bytes (`puts_then`).
 ghost use Rattle.std.specs.Prelude.{◌≡◌, nat_abs};
 ghost use Rattle.io.specs.Digits.{last_digits};
 ghost use Rattle.text.specs.Numbers.{numeral, int_text};

@@ -1,4 +1,4 @@
-//! Times a morning's merge: a plain program over a vector of spans, and the history through the archive of crate bench, in one run.
+//! Times a morning's merge: a plain program over a vector of spans, and the history through the archive of crate bench_c, in one run.
 //! merge [SEED [RUNS]]
 #[path = "../../../entries.rs"]
 mod entries;
