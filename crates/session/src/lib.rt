@@ -1,8 +1,8 @@
 // A session of the lane program: the calls of a script answered one after the other (docs/SCRIPT.md), over a rope or a history in bytes that are lent here.
 //
 // `input` cuts what is read into lines, `answer` finds the call that a line says and who answers it, `calls` holds the calls of a rope with `entries` for its
-// delta, `history_calls` those of a history with `applied` for its deltas, `look` what only reads or repairs the rows, `reply` the words of an answer. Each call of
-// a library is one function: a new one is added to `answer` and to its file.
+// delta, `history_calls` those of a history with `applied` for its deltas, `look` what only reads or repairs the rows, `reply` the words of an answer, `console`
+// what is read and written, and how that failed. Each call of a library is one function: a new one is added to `answer` and to its file.
 #![tactic(auto)]
 
 pub mod answer;
