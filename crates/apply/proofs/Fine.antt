@@ -8,8 +8,8 @@ use lib.Dec.{eqb}
 use lib.ListN.{length, length-append}
 use borrow.Author.Tests.{eqb-true, eqb-false, ne_eqb, le-leb}
 use mir.Facts.{to_z-of_z}
-use Rattle.span.specs.declared.ids.OptId.{OptId}
-use Rattle.span.specs.declared.ids.OptId.TheVariants as OptI
+use Rattle.span.specs.Maybe.{OptId}
+use Rattle.std.specs.Prelude as OptI
 use Rattle.span.specs.declared.span.FugueSpan.{FugueSpan}
 use Rattle.span.specs.declared.span.DiffStatus.{DiffStatus}
 use Rattle.span.specs.declared.span.DiffStatus.TheVariants.{NotChanged, Created, Deleted}
@@ -52,13 +52,13 @@ fine_delete n z = record { said = refl; formed = refl; ids = refl; known = ap no
 
 module _ (s : FugueSpan) (ok : span_code s ≡ 0) where
   -- what comes in has a real id
-  real_known : is_real s.real_id ≡ true → room_opt (OptI.At (real_of s)) (len_span s) ≡ true
+  real_known : is_real s.real_id ≡ true → room_opt (OptI.Some (real_of s)) (len_span s) ≡ true
   unfolding real_of
   real_known e = go s.real_id e (span_ok s ok).real
     where
-      go : (o : OptId) → is_real o ≡ true → room_opt o (len_span s) ≡ true → room_opt (OptI.At (real_by o s.id)) (len_span s) ≡ true
-      go OptI.Nothing r q = absurd (false≢true r)
-      go (OptI.At i) r q = q
+      go : (o : OptId) → is_real o ≡ true → room_opt o (len_span s) ≡ true → room_opt (OptI.Some (real_by o s.id)) (len_span s) ≡ true
+      go OptI.None r q = absurd (false≢true r)
+      go (OptI.Some i) r q = q
 
   lamport_fits_lem : lamport_fits (lamport_of s) (len_span s) ≡ true
   unfolding lamport_fits lamport_of

@@ -9,7 +9,7 @@ use lib.ListN.{length}
 use borrow.Author.Tests.{eq-eqb, ne_eqb}
 use Rattle.span.specs.declared.chunk.RichtextChunk.{RichtextChunk}
 use Rattle.span.specs.declared.ids.Id.{Id}
-use Rattle.span.specs.declared.ids.OptId.TheVariants as OptI
+use Rattle.std.specs.Prelude as OptI
 use Rattle.span.specs.Answer.{lower}
 use Rattle.span.proofs.AnswerLaws.{lower_by}
 use Rattle.span.specs.Chunk.{len_of, formed}
@@ -110,7 +110,7 @@ pub item_by : (x : Item) (f r s : Bool) → formed x.content ≡ f → room_of x
 unfolding item_code item_formed item_ids item_single
 item_by x f r s p q e = rw (p, q, e)
 
-pub insert_by : (c : RichtextChunk) (i : Id) (l : OptLamport) (f r s : Bool) → formed c ≡ f → room_opt (OptI.At i) (len_of c) ≡ r → lamport_fits l (len_of c) ≡ s → cond f (cond (r && s) 0 2) 1 ≡ insert_code c i l
+pub insert_by : (c : RichtextChunk) (i : Id) (l : OptLamport) (f r s : Bool) → formed c ≡ f → room_opt (OptI.Some i) (len_of c) ≡ r → lamport_fits l (len_of c) ≡ s → cond f (cond (r && s) 0 2) 1 ≡ insert_code c i l
 unfolding insert_code
 insert_by c i l f r s p q e = rw (p, q, e)
 

@@ -3,10 +3,9 @@
 use Rattle.std.specs.Prelude.{ℕ, suc, ◌+◌, Bool, true, false, not, ◌&&◌, List, [], ◌∷◌, ◌++◌, map, length, take, drop, nat_le, ◌==◌}
 use Rattle.span.specs.declared.chunk.RichtextChunk.{RichtextChunk}
 use Rattle.span.specs.declared.ids.Id.{Id}
-use Rattle.span.specs.declared.ids.OptId.TheVariants as OptI
+use Rattle.std.specs.Prelude as OptI
 use Rattle.span.specs.declared.status.Status.{Status}
-use Rattle.span.specs.declared.span.OptStatus.{OptStatus}
-use Rattle.span.specs.declared.span.OptStatus.TheVariants as Opt
+use Rattle.span.specs.Maybe.{OptStatus}
 use Rattle.span.specs.declared.span.FugueSpan.{FugueSpan}
 use Rattle.span.specs.Chunk.{len_of, formed, part_chunk}
 use Rattle.span.specs.Ids.{inc_id, room_of, room_opt}
@@ -34,11 +33,11 @@ items l = map item_of (visibles l)
 
 -- a unit at the version compared with: its diff_status, where it has one, as its status
 abbrev pub or_status : OptStatus → Status → Status
-or_status Opt.Nothing now = now
-or_status (Opt.Is d) now = d
+or_status OptI.None now = now
+or_status (OptI.Some d) now = d
 
 unfoldable pub new_unit : FugueSpan → FugueSpan
-new_unit u = with_state u (or_status u.diff_status u.status) Opt.Nothing u.real_id
+new_unit u = with_state u (or_status u.diff_status u.status) OptI.None u.real_id
 
 -- the units of an Insert
 unfoldable pub item_at : RichtextChunk → Id → ℕ → Item
@@ -73,7 +72,7 @@ unfoldable pub entry_ids : Given → Bool
 entry_ids Strange = true
 entry_ids (Known (Retain n)) = true
 entry_ids (Known (Delete n)) = true
-entry_ids (Known (Insert c i l)) = room_opt (OptI.At i) (len_of c) && lamport_fits l (len_of c)
+entry_ids (Known (Insert c i l)) = room_opt (OptI.Some i) (len_of c) && lamport_fits l (len_of c)
 
 -- 14: no known kind, or of length 0
 unfoldable pub entry_known : Given → Bool

@@ -2,8 +2,7 @@
 use Rattle.std.specs.Prelude.{ℕ, ◌+◌, ◌-◌, ◌&&◌, List, [], ◌∷◌, length, take, if◌then◌else◌, nat_lt, slice_index, ◌==◌}
 use Rattle.span.specs.declared.chunk.RichtextChunk.{RichtextChunk}
 use Rattle.span.specs.declared.ids.Id.{Id}
-use Rattle.span.specs.declared.ids.OptId.TheVariants as OptI
-use Rattle.span.specs.declared.span.OptStatus.TheVariants as Opt
+use Rattle.std.specs.Prelude as OptI
 use Rattle.span.specs.declared.span.FugueSpan.{FugueSpan}
 use Rattle.span.specs.Chunk.{chunk, len_of, formed}
 use Rattle.span.specs.Status.{new_status}
@@ -65,11 +64,11 @@ bare_span i c =
     record {
       id = i;
       lamport = 0;
-      real_id = OptI.Nothing;
+      real_id = OptI.None;
       status = new_status;
-      diff_status = Opt.Nothing;
-      origin_left = OptI.Nothing;
-      origin_right = OptI.Nothing;
+      diff_status = OptI.None;
+      origin_left = OptI.None;
+      origin_right = OptI.None;
       content = c;
     }
 
@@ -80,7 +79,7 @@ new_len (g ∷ es) m = gives g + new_len es (m - takes g)
 
 -- what refuses an entry: 1, 2, 14, the lowest
 unfoldable pub insert_code : RichtextChunk → Id → OptLamport → ℕ
-insert_code c i l = unless (formed c) 1 (unless (room_opt (OptI.At i) (len_of c) && lamport_fits l (len_of c)) 2 0)
+insert_code c i l = unless (formed c) 1 (unless (room_opt (OptI.Some i) (len_of c) && lamport_fits l (len_of c)) 2 0)
 
 -- 14 of a length 0
 abbrev pub len_code : ℕ → ℕ

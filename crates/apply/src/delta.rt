@@ -13,8 +13,8 @@ use crate::given::{Given, check_given, given_at, gives, takes};
 use crate::item::{Item, copy_items, get_item, put_units};
 use rope::diff::shortest;
 use span::chunk::RichtextChunk;
-use span::ids::{Id, OptId};
-use span::span::{FugueSpan, OptStatus};
+use span::ids::Id;
+use span::span::FugueSpan;
 use span::status::Status;
 use units::diff::Entry;
 
@@ -198,14 +198,14 @@ fn bare(id: Id, content: RichtextChunk) -> FugueSpan
     FugueSpan {
         id: id,
         lamport: 0,
-        real_id: OptId::Nothing,
+        real_id: None,
         status: Status {
             future: false,
             delete_times: 0,
         },
-        diff_status: OptStatus::Nothing,
-        origin_left: OptId::Nothing,
-        origin_right: OptId::Nothing,
+        diff_status: None,
+        origin_left: None,
+        origin_right: None,
         content: content,
     }
 }

@@ -6,7 +6,7 @@ ghost use Rattle.apply.specs.Given.{insert_given, given_of, given_at, takes, giv
 
 use rope::diff::EntryNumbers;
 use span::chunk::RichtextChunk;
-use span::ids::{Id, OptId};
+use span::ids::Id;
 use units::diff::{Entry, OptLamport};
 
 // An entry of a known kind, or none.
@@ -127,7 +127,7 @@ fn check_insert(content: RichtextChunk, id: Id, lamport: OptLamport) -> u8
 {
     if content.is_formed() {
         let len = content.len();
-        let real = OptId::At(id);
+        let real = Some(id);
         if real.has_room(len) {
             if lamport_fits(lamport, len) { 0 } else { 2 }
         } else {

@@ -4,7 +4,7 @@
 use rope::diff::DiffAnswer;
 use rope::find::Found;
 use rope::query::{LenAnswer, RealAnswer};
-use span::ids::{Id, OptId};
+use span::ids::Id;
 
 #[unsafe(no_mangle)]
 pub extern "C" fn bench_check(s: &[u8]) -> bool {
@@ -40,7 +40,7 @@ pub extern "C" fn bench_find(s: &[u8], peer: u64, counter: u16) -> usize {
         peer: peer,
         counter: counter as i32,
     };
-    match rope::find::find_elem(&s[72..], n, OptId::At(id)) {
+    match rope::find::find_elem(&s[72..], n, Some(id)) {
         Found::At(i, _) => i,
         Found::Nothing => n,
     }

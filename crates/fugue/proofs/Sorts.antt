@@ -11,8 +11,8 @@ use lib.IntN.{ℤ, pos, negsuc}
 use lib.Signed.{lt_z}
 use native.Mathlib.Omega.{arith}
 use Rattle.span.specs.declared.ids.Id.{Id}
-use Rattle.span.specs.declared.ids.OptId.{OptId}
-use Rattle.span.specs.declared.ids.OptId.TheVariants.{At}
+use Rattle.span.specs.Maybe.{OptId}
+use Rattle.std.specs.Prelude.{Some as At}
 use Rattle.span.specs.declared.span.FugueSpan.{FugueSpan}
 use Rattle.fugue.specs.Tree.{ref, walk, id_before, by_id, sort_id}
 use Rattle.fugue.proofs.Order.{Tri, tlt, teq, tgt, LtZ, LtId, LtId-irrefl, LtId-trans, tri_id}

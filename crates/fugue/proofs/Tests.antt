@@ -8,8 +8,8 @@ use mathlib.Core.List.{List, [], ◌∷◌}
 use lib.Dec.{T, eqb, ltb, eqb→eq, eqb_refl, ltb→lt, lt→ltb}
 use lib.ListN.{length}
 use native.Mathlib.Omega.{arith}
-use Rattle.span.specs.declared.ids.OptId.{OptId}
-use Rattle.span.specs.declared.ids.OptId.TheVariants.{Nothing}
+use Rattle.span.specs.Maybe.{OptId}
+use Rattle.std.specs.Prelude.{None as Nothing}
 use Rattle.span.specs.declared.span.FugueSpan.{FugueSpan}
 use Rattle.span.specs.Ids.{same_opt}
 use Rattle.span.proofs.Same.{same_opt-true, same_opt_refl}

@@ -11,8 +11,8 @@ use lib.IntN.{ℤ, pos, negsuc}
 use lib.Signed.{le_z}
 use lib.ListN.{length}
 use borrow.Author.Tests.{leb-true}
-use Rattle.span.specs.declared.ids.OptId.{OptId}
-use Rattle.span.specs.declared.ids.OptId.TheVariants.{At}
+use Rattle.span.specs.Maybe.{OptId}
+use Rattle.std.specs.Prelude.{Some as At}
 use Rattle.span.specs.Ids.{UNKNOWN_PEER, room_opt}
 use Rattle.span.specs.Status.{eq_z}
 use Rattle.span.proofs.StatusLaws.{eq_z-true}

@@ -10,7 +10,7 @@ use lib.Dec.{eqb, leb}
 use lib.IntN.{ℤ, pos, negsuc, ◌+ℤ◌}
 use lib.Signed.{le_z}
 use borrow.Author.Tests.{le-leb, lt-leb, ltb-true, leb-true}
-use Rattle.span.specs.declared.ids.OptId.TheVariants.{At}
+use Rattle.std.specs.Prelude.{Some as At}
 use Rattle.span.specs.Ids.{UNKNOWN_PEER, room_opt}
 use Rattle.span.specs.Status.{eq_z}
 use Rattle.span.proofs.StatusLaws.{eq_z_refl}

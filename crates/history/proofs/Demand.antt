@@ -9,7 +9,7 @@ use native.Mathlib.Omega.{arith}
 use lib.Dec.{eqb, leb}
 use lib.ListN.{length, length-map}
 use borrow.Author.Tests.{le-leb, ne_eqb}
-use Rattle.span.specs.declared.ids.OptId.{OptId}
+use Rattle.span.specs.Maybe.{OptId}
 use Rattle.span.specs.Ids.{UNKNOWN_PEER}
 use Rattle.span.specs.Units.{expand, join}
 use Rattle.span.proofs.Unique.{expand-join}

@@ -5,7 +5,7 @@ use mathlib.Core.Logic.{◌⊎◌, inl, inr}
 use mathlib.Core.Bool.{true}
 use mathlib.Core.List.Memᴰ
 use mathlib.Core.List.{List, [], ◌∷◌, ◌++◌, map}
-use Rattle.span.specs.declared.ids.OptId.{OptId}
+use Rattle.span.specs.Maybe.{OptId}
 use Rattle.fugue.specs.Tree.{walk, sort_id}
 use Rattle.fugue.proofs.Keys.{Key}
 use Rattle.fugue.proofs.Clocks.{cnt, done_of, done_in, todo_in, in_todo, Order}

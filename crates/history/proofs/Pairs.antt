@@ -12,7 +12,7 @@ use lib.ListN.{length}
 use lib.Signed.{le_z}
 use borrow.Author.Tests.{eqb-true, leb-true, le-leb, ne_eqb}
 use Rattle.span.specs.declared.ids.Id.{Id}
-use Rattle.span.specs.declared.ids.OptId.TheVariants.{At}
+use Rattle.std.specs.Prelude.{Some as At}
 use Rattle.span.specs.Ids.{id, room_opt}
 use Rattle.span.specs.Status.{eq_z}
 use Rattle.units.specs.Limits.{PEERS}

@@ -7,10 +7,10 @@ use mathlib.Core.List.{List, [], ◌∷◌, map}
 use lib.Dec.{eqb}
 use lib.IntN.{pos}
 use Rattle.span.specs.declared.ids.Id.{Id}
-use Rattle.span.specs.declared.ids.OptId.{OptId}
-use Rattle.span.specs.declared.ids.OptId.TheVariants.{Nothing, At}
+use Rattle.span.specs.Maybe.{OptId}
+use Rattle.std.specs.Prelude.{None as Nothing, Some as At}
 use Rattle.span.specs.declared.status.Status.{Status}
-use Rattle.span.specs.declared.span.OptStatus.TheVariants as Opt
+use Rattle.std.specs.Prelude as Opt
 use Rattle.span.specs.declared.span.FugueSpan.{FugueSpan}
 use Rattle.span.specs.Ids.{UNKNOWN_PEER}
 use Rattle.span.specs.Status.{status, activated}
@@ -27,11 +27,11 @@ use Rattle.history.specs.Checkout as Co
 use Rattle.history.specs.Demand.{real_plain, no_real}
 
 unfoldable pub plain : FugueSpan → FugueSpan
-plain u = with_state u (status false (pos 0)) Opt.Nothing (real_plain u)
+plain u = with_state u (status false (pos 0)) Opt.None (real_plain u)
 
 -- at a version
 unfoldable pub view : Version → List Held → FugueSpan → FugueSpan
-view v held u = with_state u (status_at v held u.id) Opt.Nothing (real_plain u)
+view v held u = with_state u (status_at v held u.id) Opt.None (real_plain u)
 
 -- the units of a version, in list order: what an edit with this context sees
 abbrev pub sees : Version → History → List FugueSpan
@@ -63,7 +63,7 @@ view-plain v A B u w e d = λ i. record {
   lamport = (e i).lamport;
   real_id = (e i).real_id;
   status = status (not (in_version v (e i).id)) (pos (d i));
-  diff_status = Opt.Nothing;
+  diff_status = Opt.None;
   origin_left = (e i).origin_left;
   origin_right = (e i).origin_right;
   content = (e i).content;
@@ -71,9 +71,9 @@ view-plain v A B u w e d = λ i. record {
 
 pub plain-view : (v : Version) (held : List Held) (u : FugueSpan) → plain (view v held u) ≡ plain u
 unfolding plain view with_state
-plain-view v held u = ap (λ (r : OptId). with_state u (status false (pos 0)) Opt.Nothing r) (twice u)
+plain-view v held u = ap (λ (r : OptId). with_state u (status false (pos 0)) Opt.None r) (twice u)
   where
-    twice : (u : FugueSpan) → real_plain (with_state u (status_at v held u.id) Opt.Nothing (real_plain u)) ≡ real_plain u
+    twice : (u : FugueSpan) → real_plain (with_state u (status_at v held u.id) Opt.None (real_plain u)) ≡ real_plain u
     twice u = unfold real_plain in go (eqb u.id.peer UNKNOWN_PEER) u.real_id
       where
         go : (b : Bool) (r : OptId) → cond b Nothing (cond b Nothing r) ≡ cond b Nothing r

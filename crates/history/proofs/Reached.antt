@@ -6,7 +6,7 @@ use mathlib.Core.List.Memᴰ
 use mathlib.Core.List.{List, [], ◌∷◌, ◌++◌}
 use lib.Dec.{eqb, ltb}
 use lib.ListN.{length}
-use Rattle.span.specs.declared.ids.OptId.{OptId}
+use Rattle.span.specs.Maybe.{OptId}
 use Rattle.units.specs.Limits.{EDITS, fits}
 use Rattle.units.specs.declared.diff.Entry.{Entry}
 use Rattle.fugue.proofs.Keys.{Key}

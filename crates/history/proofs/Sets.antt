@@ -11,7 +11,7 @@ use lib.Dec.{leb, eqb}
 use lib.IntN.{ℤ, pos}
 use borrow.Author.Tests.{leb-true, eqb-false, not-true}
 use Rattle.span.specs.declared.ids.Id.{Id}
-use Rattle.span.specs.declared.ids.OptId.TheVariants.{At}
+use Rattle.std.specs.Prelude.{Some as At}
 use Rattle.span.specs.Chunk.{UNKNOWN, chunk}
 use Rattle.span.specs.Ids.{UNKNOWN_PEER, room_of, room_opt}
 use Rattle.span.proofs.IdsLaws.{Room, roomy}

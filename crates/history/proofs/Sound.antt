@@ -10,7 +10,7 @@ use lib.Dec.{eqb, leb}
 use lib.IntN.{pos}
 use lib.ListN.{length}
 use borrow.Author.Tests.{eqb-true, leb-true, le-leb, eq-eqb}
-use Rattle.span.specs.declared.ids.OptId.TheVariants.{At}
+use Rattle.std.specs.Prelude.{Some as At}
 use Rattle.span.specs.Ids.{room_opt}
 use Rattle.span.specs.Status.{eq_z}
 use Rattle.span.proofs.StatusLaws.{eq_z-true}

@@ -11,8 +11,8 @@ use lib.ListN.{length, length-append, length-map}
 use borrow.Author.Tests.{eq-eqb, le-leb, ne_eqb}
 use Rattle.span.specs.declared.chunk.RichtextChunk.{RichtextChunk}
 use Rattle.span.specs.declared.ids.Id.{Id}
-use Rattle.span.specs.declared.ids.OptId.{OptId}
-use Rattle.span.specs.declared.ids.OptId.TheVariants.{Nothing}
+use Rattle.span.specs.Maybe.{OptId}
+use Rattle.std.specs.Prelude.{None as Nothing}
 use Rattle.span.specs.declared.span.FugueSpan.{FugueSpan}
 use Rattle.span.specs.Chunk.{UNKNOWN, chunk, part_chunk}
 use Rattle.span.specs.Ids.{UNKNOWN_PEER, inc_id, same_id, same_opt}

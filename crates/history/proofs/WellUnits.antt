@@ -12,10 +12,10 @@ use lib.ListN.{length}
 use borrow.Author.Tests.{eq-eqb, le-leb, ne_eqb}
 use Rattle.span.specs.declared.chunk.RichtextChunk.{RichtextChunk}
 use Rattle.span.specs.declared.ids.Id.{Id}
-use Rattle.span.specs.declared.ids.OptId.{OptId}
-use Rattle.span.specs.declared.ids.OptId.TheVariants.{Nothing, At}
+use Rattle.span.specs.Maybe.{OptId}
+use Rattle.std.specs.Prelude.{None as Nothing, Some as At}
 use Rattle.span.specs.declared.status.Status.{Status}
-use Rattle.span.specs.declared.span.OptStatus.{OptStatus}
+use Rattle.span.specs.Maybe.{OptStatus}
 use Rattle.span.specs.declared.span.FugueSpan.{FugueSpan}
 use Rattle.span.specs.Chunk.{formed, len_of}
 use Rattle.span.specs.Ids.{UNKNOWN_PEER, room, room_of, room_opt, inc_id}

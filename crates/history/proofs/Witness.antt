@@ -9,7 +9,7 @@ use mathlib.Core.List.{List, [], ◌∷◌}
 use native.Mathlib.Omega.{arith}
 use lib.Dec.{eqb}
 use lib.IntN.{pos}
-use Rattle.span.specs.declared.ids.OptId.TheVariants.{At}
+use Rattle.std.specs.Prelude.{Some as At}
 use Rattle.span.specs.Chunk.{chunk}
 use Rattle.span.specs.Ids.{id, room_opt}
 use Rattle.fugue.proofs.Tests.{Test, pass, fail, eqb_test}

@@ -3,7 +3,7 @@ use Rattle.std.specs.Prelude.{ℕ, suc, ◌+◌, Bool, not, ◌&&◌, List, [], 
 use Rattle.std.specs.Int.Signed.{le_z, lt_z}
 use Rattle.span.specs.declared.ids.Id.{Id}
 use Rattle.span.specs.declared.status.Status.{Status}
-use Rattle.span.specs.declared.span.OptStatus.TheVariants.{Nothing, Is}
+use Rattle.std.specs.Prelude.{None as Nothing, Some as Is}
 use Rattle.span.specs.declared.span.FugueSpan.{FugueSpan}
 use Rattle.span.specs.Ids.{inc_id, same_id}
 use Rattle.span.specs.Status.{status}

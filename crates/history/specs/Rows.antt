@@ -2,8 +2,8 @@
 -- the set alone, where the row is of placement.
 use Rattle.std.specs.Prelude.{ℕ, zero, suc, ◌≡◌, refl, true, false, List, [], ◌∷◌, ◌++◌, map, ℤ, pos, if◌then◌else◌, ◌==◌}
 use Rattle.span.specs.declared.ids.Id.{Id}
-use Rattle.span.specs.declared.ids.OptId.{OptId}
-use Rattle.span.specs.declared.ids.OptId.TheVariants.{Nothing, At}
+use Rattle.span.specs.Maybe.{OptId}
+use Rattle.std.specs.Prelude.{None as Nothing, Some as At}
 use Rattle.span.specs.declared.span.FugueSpan.{FugueSpan}
 use Rattle.span.specs.Chunk.{chunk, len_of}
 use Rattle.span.specs.Units.{tab, expand}

@@ -1,6 +1,6 @@
 -- What refuses an edit by the edits held (1, 2, 4, 5, 6, 7), and a well-formed history (15). Assumes nothing.
 use Rattle.std.specs.Prelude.{ℕ, suc, ◌+◌, Bool, true, false, not, ◌&&◌, ◌||◌, List, [], ◌∷◌, ◌++◌, map, pos, length, if◌then◌else◌, nat_le, ◌==◌}
-use Rattle.span.specs.declared.ids.OptId.TheVariants.{At}
+use Rattle.std.specs.Prelude.{Some as At}
 use Rattle.span.specs.declared.span.FugueSpan.{FugueSpan}
 use Rattle.span.specs.Chunk.{formed, len_of}
 use Rattle.span.specs.Status.{eq_z}

@@ -3,7 +3,7 @@ use Prim.Native.Nat.{ℕ, zero, suc, ◌+◌, ◌*◌, ◌<◌}
 use mathlib.Core.Path.{◌≡◌, refl, sym, ap, ap₂, ◌∙◌}
 use mathlib.Core.List.{List, [], ◌∷◌, ◌++◌}
 use lib.ListN.{length, drop}
-use Rattle.span.specs.declared.span.OptStatus.TheVariants as Opt
+use Rattle.std.specs.Prelude as Opt
 use Rattle.span.specs.declared.span.FugueSpan.{FugueSpan}
 use Rattle.span.specs.Span.{len_span, span_code, ids_ok, shift, left_of}
 use Rattle.span.specs.Units.{tab, unit_at, units_of, expand}
@@ -30,7 +30,7 @@ clear_tab s j (suc n) = ap₂ (λ (u : FugueSpan) (l : List FugueSpan). u ∷ l)
 clear_append : (a b : List FugueSpan) → clear_units (a ++ b) ≡ clear_units a ++ clear_units b
 unfolding clear_units
 clear_append [] b = refl
-clear_append (u ∷ a) b = ap (λ (l : List FugueSpan). with_state u u.status Opt.Nothing u.real_id ∷ l) (clear_append a b)
+clear_append (u ∷ a) b = ap (λ (l : List FugueSpan). with_state u u.status Opt.None u.real_id ∷ l) (clear_append a b)
 
 clear_span_lem : (s : FugueSpan) → clear_units (units_of s) ≡ units_of (clear_span s)
 unfolding units_of clear_span with_state

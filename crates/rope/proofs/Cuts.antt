@@ -7,7 +7,7 @@ use lib.Dec.{eqb}
 use lib.IntN.{ℤ, pos, negsuc, ◌+ℤ◌}
 use borrow.Author.Tests.{le-leb, leb-true, eqb-true}
 use Rattle.span.specs.declared.ids.Id.{Id}
-use Rattle.span.specs.declared.ids.OptId.TheVariants.{At}
+use Rattle.std.specs.Prelude.{Some as At}
 use Rattle.span.specs.declared.status.Status.{Status}
 use Rattle.span.specs.declared.span.FugueSpan.{FugueSpan}
 use Rattle.span.specs.Ids.{UNKNOWN_PEER, room, room_of, room_opt, inc_id}
@@ -15,7 +15,7 @@ use Rattle.span.specs.declared.status.Counter.{Counter}
 use Rattle.span.specs.declared.status.Counter.TheVariants as Counter
 use Rattle.span.specs.declared.status.StatusAnswer.{StatusAnswer}
 use Rattle.span.specs.declared.status.StatusAnswer.TheVariants as Answer
-use Rattle.span.specs.declared.span.OptStatus.TheVariants as OptS
+use Rattle.std.specs.Prelude as OptS
 use Rattle.span.specs.Status.{status, eq_z, activated, in_i16, times_of, counter_of}
 use Rattle.span.specs.Span.{len_span, active_len}
 use Rattle.rope.specs.declared.change.Delete.{Delete}
@@ -193,17 +193,17 @@ module _ (b : Status) (k : ℤ) where
 
 -- a piece that is updated
 module _ (f : SetFuture) (k : ℤ) (u : FugueSpan) (new : Status) (diff : Bool) (e : new ≡ change_status f k (base_of diff u)) where
-  pub updated_diff : diff ≡ true → with_state u u.status (OptS.Is new) u.real_id ≡ update_unit f k diff u
+  pub updated_diff : diff ≡ true → with_state u u.status (OptS.Some new) u.real_id ≡ update_unit f k diff u
   unfolding update_unit
   updated_diff d =
-      ap (λ (t : Status). with_state u u.status (OptS.Is t) u.real_id) e ∙
-      ap (λ (b : Bool). cond b (with_state u u.status (OptS.Is (change_status f k (base_of diff u))) u.real_id) (with_state u (change_status f k (base_of diff u)) u.diff_status u.real_id)) (sym d)
+      ap (λ (t : Status). with_state u u.status (OptS.Some t) u.real_id) e ∙
+      ap (λ (b : Bool). cond b (with_state u u.status (OptS.Some (change_status f k (base_of diff u))) u.real_id) (with_state u (change_status f k (base_of diff u)) u.diff_status u.real_id)) (sym d)
 
   pub updated : diff ≡ false → with_state u new u.diff_status u.real_id ≡ update_unit f k diff u
   unfolding update_unit
   updated d =
       ap (λ (t : Status). with_state u t u.diff_status u.real_id) e ∙
-      ap (λ (b : Bool). cond b (with_state u u.status (OptS.Is (change_status f k (base_of diff u))) u.real_id) (with_state u (change_status f k (base_of diff u)) u.diff_status u.real_id)) (sym d)
+      ap (λ (b : Bool). cond b (with_state u u.status (OptS.Some (change_status f k (base_of diff u))) u.real_id) (with_state u (change_status f k (base_of diff u)) u.diff_status u.real_id)) (sym d)
 
 -- ---- either
 

@@ -9,10 +9,10 @@ use lib.Dec.{ltb, eqb}
 use lib.IntN.{ℤ, pos, ◌+ℤ◌}
 use lib.ListN.{length, drop}
 use borrow.Author.Tests.{lt-ltb}
-use Rattle.span.specs.declared.ids.OptId.{OptId}
+use Rattle.span.specs.Maybe.{OptId}
 use Rattle.span.specs.declared.status.Status.{Status}
-use Rattle.span.specs.declared.span.OptStatus.{OptStatus}
-use Rattle.span.specs.declared.span.OptStatus.TheVariants as Opt
+use Rattle.span.specs.Maybe.{OptStatus}
+use Rattle.std.specs.Prelude as Opt
 use Rattle.span.specs.declared.span.FugueSpan.{FugueSpan}
 use Rattle.span.specs.Answer.{lower}
 use Rattle.span.specs.Ids.{same_opt}
@@ -128,10 +128,10 @@ same_4 false b false = refl
 
 same_diffs : (s t : Status) (d e : OptStatus) → (same_status s t && same_diff d e) ≡ (eq_z (diff_or d s).delete_times (diff_or e t).delete_times && (same_status s t && same_diff (uncounted_diff d) (uncounted_diff e)))
 unfolding same_diff same_status
-same_diffs s t Opt.Nothing Opt.Nothing = same_2 (beq s.future t.future) (eq_z s.delete_times t.delete_times)
-same_diffs s t Opt.Nothing (Opt.Is e) = same_3 (beq s.future t.future && eq_z s.delete_times t.delete_times) (eq_z s.delete_times e.delete_times)
-same_diffs s t (Opt.Is d) Opt.Nothing = same_3 (beq s.future t.future && eq_z s.delete_times t.delete_times) (eq_z d.delete_times t.delete_times)
-same_diffs s t (Opt.Is d) (Opt.Is e) = same_4 (beq s.future t.future && eq_z s.delete_times t.delete_times) (beq d.future e.future) (eq_z d.delete_times e.delete_times)
+same_diffs s t Opt.None Opt.None = same_2 (beq s.future t.future) (eq_z s.delete_times t.delete_times)
+same_diffs s t Opt.None (Opt.Some e) = same_3 (beq s.future t.future && eq_z s.delete_times t.delete_times) (eq_z s.delete_times e.delete_times)
+same_diffs s t (Opt.Some d) Opt.None = same_3 (beq s.future t.future && eq_z s.delete_times t.delete_times) (eq_z d.delete_times t.delete_times)
+same_diffs s t (Opt.Some d) (Opt.Some e) = same_4 (beq s.future t.future && eq_z s.delete_times t.delete_times) (beq d.future e.future) (eq_z d.delete_times e.delete_times)
 
 -- the two statuses of a span, in a span that runs on
 state_bare : (diff : Bool) (x y : FugueSpan) → same_state x y ≡ (eq_z (base_of diff x).delete_times (base_of diff y).delete_times && same_state (bare diff x) (bare diff y))
@@ -223,12 +223,12 @@ module _ (f : SetFuture) (k : ℤ) (u : FugueSpan) (base : Status) (now : Bool) 
   unfolding change_status
   fresh = ap (λ (b : Bool). status b (pos 0)) (g ∙ ap (λ (s : Status). set_future f s.future) e)
 
-  pub bare-diff : diff ≡ true → with_state u u.status (Opt.Is (status now (pos 0))) u.real_id ≡ bare diff (update_unit f k diff u)
+  pub bare-diff : diff ≡ true → with_state u u.status (Opt.Some (status now (pos 0))) u.real_id ≡ bare diff (update_unit f k diff u)
   unfolding bare update_unit with_state
   bare-diff d =
-      ap (λ (t : Status). with_state u u.status (Opt.Is t) u.real_id) fresh ∙ go diff d (change_status f k (base_of diff u))
+      ap (λ (t : Status). with_state u u.status (Opt.Some t) u.real_id) fresh ∙ go diff d (change_status f k (base_of diff u))
     where
-      go : (b : Bool) → b ≡ true → (s : Status) → with_state u u.status (Opt.Is (uncounted s)) u.real_id ≡ bare b (cond b (with_state u u.status (Opt.Is s) u.real_id) (with_state u s u.diff_status u.real_id))
+      go : (b : Bool) → b ≡ true → (s : Status) → with_state u u.status (Opt.Some (uncounted s)) u.real_id ≡ bare b (cond b (with_state u u.status (Opt.Some s) u.real_id) (with_state u s u.diff_status u.real_id))
       go true q s = refl
       go false q s = absurd (true≢false (sym q))
 
@@ -237,7 +237,7 @@ module _ (f : SetFuture) (k : ℤ) (u : FugueSpan) (base : Status) (now : Bool) 
   bare-status d =
       ap (λ (t : Status). with_state u t u.diff_status u.real_id) fresh ∙ go diff d (change_status f k (base_of diff u))
     where
-      go : (b : Bool) → b ≡ false → (s : Status) → with_state u (uncounted s) u.diff_status u.real_id ≡ bare b (cond b (with_state u u.status (Opt.Is s) u.real_id) (with_state u s u.diff_status u.real_id))
+      go : (b : Bool) → b ≡ false → (s : Status) → with_state u (uncounted s) u.diff_status u.real_id ≡ bare b (cond b (with_state u u.status (Opt.Some s) u.real_id) (with_state u s u.diff_status u.real_id))
       go true q s = absurd (true≢false q)
       go false q s = refl
 

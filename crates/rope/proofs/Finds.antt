@@ -4,7 +4,7 @@ use mathlib.Core.Path.{◌≡◌, refl, sym, ap, ◌∙◌}
 use mathlib.Core.Bool.{Bool, true, false, ◌||◌}
 use mathlib.Core.List.{List, [], ◌∷◌}
 use lib.ListN.{drop}
-use Rattle.span.specs.declared.ids.OptId.{OptId}
+use Rattle.span.specs.Maybe.{OptId}
 use Rattle.span.specs.declared.span.FugueSpan.{FugueSpan}
 use Rattle.span.specs.Span.{span_code}
 use Rattle.span.specs.Units.{units_of, expand}

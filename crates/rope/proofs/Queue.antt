@@ -12,8 +12,8 @@ use lib.ListN.{length, set, take, drop, length-append}
 use lib.Seq.{drop-set-lt, take_all}
 use borrow.Author.Tests.{lt-ltb, le-ltb}
 use Rattle.span.specs.declared.ids.Id.{Id}
-use Rattle.span.specs.declared.ids.OptId.{OptId}
-use Rattle.span.specs.declared.ids.OptId.TheVariants.{Nothing, At}
+use Rattle.span.specs.Maybe.{OptId}
+use Rattle.std.specs.Prelude.{None as Nothing, Some as At}
 use Rattle.span.specs.declared.span.FugueSpan.{FugueSpan}
 use Rattle.span.specs.Ids.{room_opt}
 use Rattle.span.specs.Span.{len_span, ids_ok, span_code, part_span}

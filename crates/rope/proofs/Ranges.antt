@@ -11,8 +11,8 @@ use lib.Signed.{le_z, lt_z}
 use lib.ListN.{length}
 use borrow.Author.Tests.{lt-ltb, le-ltb, le-leb, lt-leb, leb-true, ltb-true, eq-eqb, ne_eqb, eqb-true}
 use Rattle.span.specs.declared.ids.Id.{Id}
-use Rattle.span.specs.declared.ids.OptId.{OptId}
-use Rattle.span.specs.declared.ids.OptId.TheVariants.{At}
+use Rattle.span.specs.Maybe.{OptId}
+use Rattle.std.specs.Prelude.{Some as At}
 use Rattle.span.specs.declared.status.Counter.{Counter}
 use Rattle.span.specs.declared.status.Counter.TheVariants as Counter
 use Rattle.span.specs.declared.span.FugueSpan.{FugueSpan}

@@ -8,8 +8,8 @@ use lib.Dec.{ltb}
 use lib.ListN.{length, drop}
 use borrow.Author.Tests.{lt-ltb, le-ltb}
 use Rattle.span.specs.declared.ids.Id.{Id}
-use Rattle.span.specs.declared.ids.OptId.{OptId}
-use Rattle.span.specs.declared.ids.OptId.TheVariants as Opt
+use Rattle.span.specs.Maybe.{OptId}
+use Rattle.std.specs.Prelude as Opt
 use Rattle.span.specs.declared.span.FugueSpan.{FugueSpan}
 use Rattle.span.specs.Ids.{inc_id, inc_opt}
 use Rattle.span.specs.Status.{activated}
@@ -30,8 +30,8 @@ unfolding real_of shift inc_opt
 real_part s i j = go s.real_id s.id
   where
     go : (o : OptId) (k : Id) → real_by (inc_opt o i) (inc_id k i) ≡ inc_id (real_by o k) i
-    go Opt.Nothing k = refl
-    go (Opt.At x) k = refl
+    go Opt.None k = refl
+    go (Opt.Some x) k = refl
 
 -- a span of which some is visible is visible whole
 pub active_whole : (s : FugueSpan) → 0 < active_len s → active_len s ≡ len_span s

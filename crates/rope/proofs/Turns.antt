@@ -7,7 +7,7 @@ use native.Mathlib.Omega.{arith}
 use native.Mathlib.Numerals.{add-one}
 use lib.ListN.{length, take, drop}
 use lib.Seq.{take-add}
-use Rattle.span.specs.declared.ids.OptId.{OptId}
+use Rattle.span.specs.Maybe.{OptId}
 use Rattle.span.specs.declared.span.FugueSpan.{FugueSpan}
 use Rattle.span.specs.Ids.{same_opt}
 use Rattle.span.specs.Span.{len_span, span_code}

@@ -12,8 +12,8 @@ use lib.Signed.{le_z, lt_z}
 use lib.ListN.{length, drop, length-append}
 use Rattle.rope.proofs.Rights.{row_drop, row_none}
 use borrow.Author.Tests.{lt-ltb, le-ltb, le-leb, lt-leb, eqb-true}
-use Rattle.span.specs.declared.ids.OptId.{OptId}
-use Rattle.span.specs.declared.ids.OptId.TheVariants.{At}
+use Rattle.span.specs.Maybe.{OptId}
+use Rattle.std.specs.Prelude.{Some as At}
 use Rattle.span.specs.declared.span.FugueSpan.{FugueSpan}
 use Rattle.span.specs.Ids.{id, inc_id}
 use Rattle.span.proofs.IdsLaws.{Room, roomy}

@@ -9,7 +9,7 @@ use Rattle.rope.specs.Spans.{AllOk}
 use Rattle.units.specs.Change.{delete_units, update_units}
 use Rattle.units.specs.Codes.{counts_fit}
 use Rattle.span.specs.declared.span.FugueSpan.{FugueSpan}
-use Rattle.span.specs.declared.ids.OptId.TheVariants.{At}
+use Rattle.std.specs.Prelude.{Some as At}
 use Rattle.span.specs.Span.{span_code, part_span}
 use Rattle.span.specs.Units.{expand, Joined, join}
 use Rattle.store.specs.Row.{rows}

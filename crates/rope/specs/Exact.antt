@@ -2,8 +2,8 @@
 -- exact sum may be no i16. Assumes nothing.
 use Rattle.std.specs.Prelude.{◌+◌, Bool, ◌&&◌, List, [], ◌∷◌, pos, if◌then◌else◌, nat_lt}
 use Rattle.span.specs.declared.status.Status.{Status}
-use Rattle.span.specs.declared.span.OptStatus.{OptStatus}
-use Rattle.span.specs.declared.span.OptStatus.TheVariants as Opt
+use Rattle.span.specs.Maybe.{OptStatus}
+use Rattle.std.specs.Prelude as Opt
 use Rattle.span.specs.declared.span.FugueSpan.{FugueSpan}
 use Rattle.span.specs.Status.{status, eq_z}
 use Rattle.span.specs.Span.{joins_span}
@@ -16,8 +16,8 @@ abbrev pub uncounted : Status → Status
 uncounted s = status s.future (pos 0)
 
 abbrev pub uncounted_diff : OptStatus → OptStatus
-uncounted_diff Opt.Nothing = Opt.Nothing
-uncounted_diff (Opt.Is d) = Opt.Is (uncounted d)
+uncounted_diff Opt.None = Opt.None
+uncounted_diff (Opt.Some d) = Opt.Some (uncounted d)
 
 -- a span with a count of 0 in the status that an update works on
 unfoldable pub bare : Bool → FugueSpan → FugueSpan

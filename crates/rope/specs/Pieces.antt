@@ -1,7 +1,7 @@
 -- A change, span by span: the units of a span that change, the pieces that it is cut into, and what is left for the spans after.
 -- Assumes nothing.
 use Rattle.std.specs.Prelude.{ℕ, ◌+◌, ◌-◌, ◌≤◌, min, ◌≡◌, true, List, [], ◌∷◌, ◌++◌, ℤ, pos, negsuc, ◌+ℤ◌, if◌then◌else◌, nat_lt, ◌==◌}
-use Rattle.span.specs.declared.ids.OptId.TheVariants.{At}
+use Rattle.std.specs.Prelude.{Some as At}
 use Rattle.span.specs.declared.span.FugueSpan.{FugueSpan}
 use Rattle.span.specs.Ids.{room_opt, inc_id}
 use Rattle.span.specs.Status.{activated, in_i16}

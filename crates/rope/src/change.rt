@@ -5,8 +5,8 @@ ghost use Rattle.span.specs.Status.{activated, in_i16};
 ghost use Rattle.units.specs.Change.{with_state, or_real, delete_unit, change_status, diff_or, base_of, update_unit};
 ghost use Rattle.rope.specs.Pieces.{delete_cut, delete_after, CanDelete, part_at, update_cut, cut_of, after_of, change_span, CanCut, CanChange};
 
-use span::ids::{Id, OptId};
-use span::span::{FugueSpan, OptStatus};
+use span::ids::Id;
+use span::span::FugueSpan;
 use span::status::{Counter, Status, StatusAnswer, counter_of};
 use units::change::SetFuture;
 
@@ -57,7 +57,7 @@ pub fn past(a: u32, b: u32) -> u32
 }
 
 // A span with other statuses and another real id.
-pub fn with_state(u: FugueSpan, status: Status, diff: OptStatus, real: OptId) -> FugueSpan
+pub fn with_state(u: FugueSpan, status: Status, diff: Option<Status>, real: Option<Id>) -> FugueSpan
     ensures { result ≡ with_state u status diff real }
 {
     let id = u.id;
@@ -77,12 +77,12 @@ pub fn with_state(u: FugueSpan, status: Status, diff: OptStatus, real: OptId) ->
 }
 
 // A real id, or this one if there is none.
-pub fn or_real(real: OptId, i: Id) -> OptId
+pub fn or_real(real: Option<Id>, i: Id) -> Option<Id>
     ensures { result ≡ or_real real i }
 {
     match real {
-        OptId::Nothing => OptId::At(i),
-        OptId::At(r) => OptId::At(r),
+        None => Some(i),
+        Some(r) => Some(r),
     }
 }
 
@@ -131,12 +131,12 @@ impl Delete {
 }
 
 // A diff_status, or the status where it is absent.
-pub fn diff_or(diff: OptStatus, status: Status) -> Status
+pub fn diff_or(diff: Option<Status>, status: Status) -> Status
     ensures { result ≡ diff_or diff status }
 {
     match diff {
-        OptStatus::Nothing => status,
-        OptStatus::Is(d) => d,
+        None => status,
+        Some(d) => d,
     }
 }
 
@@ -203,7 +203,7 @@ impl Update {
         let real = piece.real_id;
         let new = self.status(self.base(piece));
         if self.diff {
-            with_state(piece, status, OptStatus::Is(new), real)
+            with_state(piece, status, Some(new), real)
         } else {
             with_state(piece, new, diff, real)
         }

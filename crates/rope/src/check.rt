@@ -8,7 +8,6 @@ ghost use Rattle.units.specs.Store.{touching, joined_rows, named, origins_named,
 use crate::find::{has, holds};
 use crate::order::{order, origins_sorted, twice};
 use crate::place::len_of;
-use span::ids::OptId;
 use span::span::FugueSpan;
 use store::limits::UNITS;
 
@@ -73,13 +72,13 @@ pub fn units(s: &[u8], n: usize) -> usize
 }
 
 // Whether an origin is none or names a unit of the list.
-pub fn is_named(s: &[u8], n: usize, o: OptId) -> bool
+pub fn is_named(s: &[u8], n: usize, o: Option<Id>) -> bool
     requires { (n * 72 ≤ length s.now) × AllOk (rows n s.now) }
     ensures { result ≡ named o (expand (rows n s.now)) }
 {
     match o {
-        OptId::Nothing => true,
-        OptId::At(_) => has(s, n, o),
+        None => true,
+        Some(_) => has(s, n, o),
     }
 }
 

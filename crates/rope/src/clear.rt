@@ -6,7 +6,7 @@ ghost use Rattle.units.specs.Change.{clear_units};
 ghost use Rattle.rope.specs.Spans.{AllOk, clear_span};
 
 use crate::stream::push;
-use span::span::{FugueSpan, OptStatus};
+use span::span::FugueSpan;
 
 pub fn cleared(row: FugueSpan) -> FugueSpan
     ensures { result ≡ clear_span row }
@@ -22,7 +22,7 @@ pub fn cleared(row: FugueSpan) -> FugueSpan
         lamport: row.lamport,
         real_id: real,
         status: status,
-        diff_status: OptStatus::Nothing,
+        diff_status: None,
         origin_left: left,
         origin_right: right,
         content: content,

@@ -16,7 +16,7 @@ use crate::edit::room_end;
 use crate::report::{removed_len, report};
 use crate::seek::visible;
 use crate::state::check;
-use span::ids::{Id, OptId};
+use span::ids::Id;
 use store::header;
 
 // The delete of len visible units from a position on, in a well formed list with room for what it becomes. The answer is the number
@@ -56,7 +56,7 @@ pub fn refuse_delete(
     ensures { result ≡ delete_rest most places (rows n s.now) d reversed }
 {
     let start = d.start;
-    let real = OptId::At(start);
+    let real = Some(start);
     if !real.has_room(d.len) {
         return 2;
     }

@@ -9,7 +9,7 @@ ghost use Rattle.rope.specs.Columns.{change_of, step_by, entry_numbers, insert_n
 
 use crate::state::check;
 use span::chunk::RichtextChunk;
-use span::ids::{Id, OptId, UNKNOWN_PEER};
+use span::ids::{Id, UNKNOWN_PEER};
 use span::span::{DiffStatus, FugueSpan};
 use store::header;
 use units::diff::{Entry, OptLamport};
@@ -80,12 +80,12 @@ pub fn change_of(row: FugueSpan) -> Change
     }
 }
 
-fn is_real(real: OptId) -> bool
+fn is_real(real: Option<Id>) -> bool
     ensures { result ≡ is_real real }
 {
     match real {
-        OptId::Nothing => false,
-        OptId::At(_) => true,
+        None => false,
+        Some(_) => true,
     }
 }
 

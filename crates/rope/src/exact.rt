@@ -11,7 +11,7 @@ ghost use Rattle.rope.specs.Spans.{AllOk};
 ghost use Rattle.rope.specs.Exact.{uncounted_diff, bare, exact_of, joins_exact, follows, step_of, tail_of};
 
 use crate::change::{Update, with_state};
-use span::span::{FugueSpan, OptStatus};
+use span::span::FugueSpan;
 use span::status::Status;
 
 // A span in two: the count that an update works on, as it may be no i16 any more, and the rest, where it is 0.
@@ -36,12 +36,12 @@ pub fn sum(a: i16, b: i16) -> i32
 }
 
 // A diff_status with a count of 0.
-pub fn uncounted(diff: OptStatus) -> OptStatus
+pub fn uncounted(diff: Option<Status>) -> Option<Status>
     ensures { result ≡ uncounted_diff diff }
 {
     match diff {
-        OptStatus::Nothing => OptStatus::Nothing,
-        OptStatus::Is(d) => OptStatus::Is(Status {
+        None => None,
+        Some(d) => Some(Status {
             future: d.future,
             delete_times: 0,
         }),
@@ -80,7 +80,7 @@ pub fn changed_bare(u: Update, piece: FugueSpan) -> FugueSpan
         delete_times: 0,
     };
     if u.diff {
-        with_state(piece, status, OptStatus::Is(new), real)
+        with_state(piece, status, Some(new), real)
     } else {
         with_state(piece, new, diff, real)
     }

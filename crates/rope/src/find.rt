@@ -5,7 +5,6 @@ ghost use Rattle.store.specs.Row.{rows};
 ghost use Rattle.units.specs.Place.{mem_id};
 ghost use Rattle.rope.specs.Spans.{offset_of, covered, find_in, meets_span, holds_any, AllOk};
 
-use span::ids::OptId;
 use span::span::FugueSpan;
 use span::status::{Counter, counter_of};
 
@@ -16,12 +15,12 @@ pub enum Offset {
     Nothing,
 }
 
-pub fn offset_of(row: FugueSpan, o: OptId) -> Offset
+pub fn offset_of(row: FugueSpan, o: Option<Id>) -> Offset
     ensures { result ≡ offset_of row o }
 {
     match o {
-        OptId::Nothing => Offset::Nothing,
-        OptId::At(i) => {
+        None => Offset::Nothing,
+        Some(i) => {
             if row.id.peer == i.peer {
                 match counter_of(row.id.counter) {
                     Counter::Negative => Offset::Nothing,
@@ -47,7 +46,7 @@ pub fn offset_of(row: FugueSpan, o: OptId) -> Offset
     }
 }
 
-pub fn covers(row: FugueSpan, o: OptId) -> bool
+pub fn covers(row: FugueSpan, o: Option<Id>) -> bool
     ensures { result ≡ covered row o }
 {
     match offset_of(row, o) {
@@ -64,7 +63,7 @@ pub enum Found {
 }
 
 // The row and the unit of it that have the id, of the n rows lent.
-pub fn find_elem(s: &[u8], n: usize, o: OptId) -> Found
+pub fn find_elem(s: &[u8], n: usize, o: Option<Id>) -> Found
     requires { n * 72 ≤ length s.now }
     ensures { result ≡ find_in (rows n s.now) o 0 }
 {
@@ -80,7 +79,7 @@ pub fn find_elem(s: &[u8], n: usize, o: OptId) -> Found
 }
 
 // Whether an id is one of the list's.
-pub fn has(s: &[u8], n: usize, o: OptId) -> bool
+pub fn has(s: &[u8], n: usize, o: Option<Id>) -> bool
     requires { (n * 72 ≤ length s.now) × AllOk (rows n s.now) }
     ensures { result ≡ mem_id o (expand (rows n s.now)) }
 {
@@ -96,10 +95,10 @@ pub fn meets(a: FugueSpan, b: FugueSpan) -> bool
 {
     let x = a.id;
     let y = b.id;
-    if covers(a, OptId::At(y)) {
+    if covers(a, Some(y)) {
         true
     } else {
-        covers(b, OptId::At(x))
+        covers(b, Some(x))
     }
 }
 

@@ -8,7 +8,6 @@ ghost use Rattle.rope.specs.Plans.{Cuts, cut_rows, planned, plan_rows, Can, Plan
 
 use crate::place::{right_from, scan_from};
 use crate::seek::{Cursor, seek};
-use span::ids::OptId;
 use span::span::FugueSpan;
 
 // What an insert does to the rows: a row becomes that row and the span joined to its end; the span goes before a row; or it goes into a row,
@@ -51,7 +50,7 @@ pub fn plan_border(s: &[u8], n: usize, r: usize, y: FugueSpan) -> Plan
     }
 }
 
-pub fn with_origins(x: FugueSpan, left: OptId, right: OptId) -> FugueSpan
+pub fn with_origins(x: FugueSpan, left: Option<Id>, right: Option<Id>) -> FugueSpan
     ensures { result ≡ with_origins x left right }
 {
     let id = x.id;
@@ -72,7 +71,7 @@ pub fn with_origins(x: FugueSpan, left: OptId, right: OptId) -> FugueSpan
 }
 
 // The span x is inserted by a cursor that stands before row `at`, right after the unit `left`.
-pub fn plan_scan(s: &[u8], n: usize, units: usize, at: usize, left: OptId, x: FugueSpan) -> Plan
+pub fn plan_scan(s: &[u8], n: usize, units: usize, at: usize, left: Option<Id>, x: FugueSpan) -> Plan
     requires { AtBorder n units at left x s.now }
     ensures { Planned result n (border_units at left x (rows n s.now)) s.now }
 {
@@ -89,7 +88,7 @@ pub fn plan_insert(s: &[u8], n: usize, units: usize, at: u32, x: FugueSpan) -> P
     ensures { Planned result n (insert_units at x (expand (rows n s.now))) s.now }
 {
     if at == 0 {
-        plan_scan(s, n, units, 0, OptId::Nothing, x)
+        plan_scan(s, n, units, 0, None, x)
     } else {
         let c = seek(s, n, at);
         plan_after(s, n, units, at, c, x)

@@ -7,7 +7,6 @@ ghost use Rattle.units.specs.Place.{first_past, pr_pos, sibling, verdict};
 ghost use Rattle.rope.specs.Spans.{right_in, run_s, AllOk, Held, place_s};
 
 use crate::find::{Offset, covers, offset_of};
-use span::ids::OptId;
 use span::span::FugueSpan;
 use units::place::{Verdict, by_pos};
 
@@ -20,7 +19,7 @@ pub enum Right {
 }
 
 // What one row tells of the parent right o of a unit whose origin left is x. The row must be well formed: else its ids and its length say nothing.
-pub fn right_in(row: FugueSpan, x: OptId, o: OptId) -> Right
+pub fn right_in(row: FugueSpan, x: Option<Id>, o: Option<Id>) -> Right
     requires { span_code row ≡ 0 }
     ensures { result ≡ right_in row x o }
 {
@@ -43,7 +42,7 @@ pub fn len_of(row: FugueSpan) -> usize
 }
 
 // The position of the parent right of a unit with origins x and o, among the units of all rows: their number if there is none.
-pub fn parent_pos(all: &[u8], n: usize, units: usize, x: OptId, o: OptId) -> usize
+pub fn parent_pos(all: &[u8], n: usize, units: usize, x: Option<Id>, o: Option<Id>) -> usize
     requires { Held n units all.now }
     ensures { result ≡ pr_pos (expand (rows n all.now)) x o }
 {
@@ -68,7 +67,7 @@ pub fn judge(
     n: usize,
     units: usize,
     row: FugueSpan,
-    o: OptId,
+    o: Option<Id>,
     m: usize,
     q: u64,
 ) -> Verdict
@@ -103,8 +102,8 @@ pub fn scan(
     all: &[u8],
     n: usize,
     units: usize,
-    x: OptId,
-    o: OptId,
+    x: Option<Id>,
+    o: Option<Id>,
     m: usize,
     q: u64,
 ) -> usize
@@ -148,7 +147,7 @@ pub fn scan(
 }
 
 // The first unit of k rows that is not future.
-pub fn first_past(s: &[u8], k: usize) -> OptId
+pub fn first_past(s: &[u8], k: usize) -> Option<Id>
     requires { (k * 72 ≤ length s.now) × AllOk (rows k s.now) }
     ensures { result ≡ first_past (expand (rows k s.now)) }
 {
@@ -158,15 +157,15 @@ pub fn first_past(s: &[u8], k: usize) -> OptId
         let status = row.status;
         let id = row.id;
         if !status.future {
-            return OptId::At(id);
+            return Some(id);
         }
         i += 1;
     }
-    OptId::Nothing
+    None
 }
 
 // Origin right for a cursor before row `at`: the first unit from there on that is not future.
-pub fn right_from(s: &[u8], n: usize, at: usize) -> OptId
+pub fn right_from(s: &[u8], n: usize, at: usize) -> Option<Id>
     requires { (n * 72 ≤ length s.now) × AllOk (rows n s.now) × (at ≤ n) }
     ensures { result ≡ first_past (expand (drop at (rows n s.now))) }
 {
@@ -175,7 +174,7 @@ pub fn right_from(s: &[u8], n: usize, at: usize) -> OptId
 }
 
 // The scan from a cursor before row `at`: the rows from the cursor on are handed to it as a part.
-pub fn scan_from(s: &[u8], n: usize, units: usize, at: usize, x: OptId, o: OptId, q: u64) -> usize
+pub fn scan_from(s: &[u8], n: usize, units: usize, at: usize, x: Option<Id>, o: Option<Id>, q: u64) -> usize
     requires { Held n units s.now × (at ≤ n) }
     ensures { result ≡ place_s (rows n s.now) at x o q }
 {

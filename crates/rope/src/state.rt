@@ -6,8 +6,8 @@ ghost use Rattle.rope.specs.Entries.{open_code, open_bytes, open_with_code, open
 
 use crate::check::well_formed;
 use span::chunk::RichtextChunk;
-use span::ids::{Id, OptId, UNKNOWN_PEER};
-use span::span::{FugueSpan, OptStatus};
+use span::ids::{Id, UNKNOWN_PEER};
+use span::span::FugueSpan;
 use span::status::Status;
 use store::header;
 use store::limits::UNITS;
@@ -48,14 +48,14 @@ fn placeholder(n: u32) -> FugueSpan
             counter: 0,
         },
         lamport: 0,
-        real_id: OptId::Nothing,
+        real_id: None,
         status: Status {
             future: false,
             delete_times: 0,
         },
-        diff_status: OptStatus::Nothing,
-        origin_left: OptId::Nothing,
-        origin_right: OptId::Nothing,
+        diff_status: None,
+        origin_left: None,
+        origin_right: None,
         content: RichtextChunk {
             start: RichtextChunk::UNKNOWN,
             end: n,

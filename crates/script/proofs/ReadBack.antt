@@ -23,11 +23,10 @@ use Rattle.text.proofs.PartsLaws.{same_equal}
 use Rattle.text.proofs.CutLaws.{Lacks, lacks_append, before_cut, after_cut, rest_cut, same_lacks, joined, AllLack, part-joined, parts-joined, numeral_lacks, int_lacks}
 use Rattle.text.proofs.IntLaws as Text
 use Rattle.span.specs.declared.ids.Id.{Id}
-use Rattle.span.specs.declared.ids.OptId.{OptId}
-use Rattle.span.specs.declared.ids.OptId.TheVariants as OptId
+use Rattle.span.specs.Maybe.{OptId}
+use Rattle.std.specs.Prelude as OptId
 use Rattle.span.specs.declared.status.Status.{Status}
-use Rattle.span.specs.declared.span.OptStatus.{OptStatus}
-use Rattle.span.specs.declared.span.OptStatus.TheVariants as OptStatus
+use Rattle.span.specs.Maybe.{OptStatus}
 use Rattle.span.specs.declared.span.FugueSpan.{FugueSpan}
 use Rattle.span.specs.declared.chunk.RichtextChunk.{RichtextChunk}
 use Rattle.span.specs.declared.chunk.RichtextChunkValue.TheVariants as Value
@@ -106,10 +105,10 @@ module _ (i : Id) (h : i.peer < 2 ^ 64) (f : SFits w32 i.counter) where
 -- an id, or `-`, which is no id
 pub opt_id_back : (o : OptId) → Row.peer_of o < 2 ^ 64 → SFits w32 (Row.ctr_of o) → Back (opt_id_text o) opt_word (Opt.Is o)
 unfolding opt_id_text opt_word id_from peer_of decimal_of up_to all_digits is_digit same_text index_of index_after
-opt_id_back OptId.Nothing h f = record { word = ascii "-"; is = refl; one = refl; back = refl }
-opt_id_back (OptId.At i) h f = let b = id_back i h f in record { word = b.word; is = b.is; one = b.one; back = go b.word b.back (same_text b.word (ascii "-")) refl }
+opt_id_back OptId.None h f = record { word = ascii "-"; is = refl; one = refl; back = refl }
+opt_id_back (OptId.Some i) h f = let b = id_back i h f in record { word = b.word; is = b.is; one = b.one; back = go b.word b.back (same_text b.word (ascii "-")) refl }
   where
-    go : (w : List ℕ) → id_word w ≡ Id.Is i → (q : Bool) → same_text w (ascii "-") ≡ q → cond q (Opt.Is OptId.Nothing) (opt_by (id_word w)) ≡ Opt.Is (OptId.At i)
+    go : (w : List ℕ) → id_word w ≡ Id.Is i → (q : Bool) → same_text w (ascii "-") ≡ q → cond q (Opt.Is OptId.None) (opt_by (id_word w)) ≡ Opt.Is (OptId.Some i)
     go w e true q = let n : Id.Bad ≡ Id.Is i = ap id_word (sym (same_equal w (ascii "-") q)) ∙ e in let z : ◌≡◌ {A = ℕ} 0 1 = cc in absurd (omega arith)
     go w e false q = ap opt_by e
 
@@ -126,10 +125,10 @@ status_back s f = count_back s.future s.delete_times f
 -- a status, or `-`, which is no status
 pub opt_status_back : (o : OptStatus) → SFits w16 (Row.times_of o) → Back (opt_status_text o) diff_word (Diff.Is o)
 unfolding opt_status_text diff_word status_word same_text index_of index_after
-opt_status_back OptStatus.Nothing f = record { word = ascii "-"; is = refl; one = refl; back = refl }
-opt_status_back (OptStatus.Is s) f = let b = status_back s f in record { word = b.word; is = b.is; one = b.one; back = go b.word b.back (same_text b.word (ascii "-")) refl }
+opt_status_back OptId.None f = record { word = ascii "-"; is = refl; one = refl; back = refl }
+opt_status_back (OptId.Some s) f = let b = status_back s f in record { word = b.word; is = b.is; one = b.one; back = go b.word b.back (same_text b.word (ascii "-")) refl }
   where
-    go : (w : List ℕ) → status_word w ≡ Status.Is s → (q : Bool) → same_text w (ascii "-") ≡ q → cond q (Diff.Is OptStatus.Nothing) (diff_by (status_word w)) ≡ Diff.Is (OptStatus.Is s)
+    go : (w : List ℕ) → status_word w ≡ Status.Is s → (q : Bool) → same_text w (ascii "-") ≡ q → cond q (Diff.Is OptId.None) (diff_by (status_word w)) ≡ Diff.Is (OptId.Some s)
     go w e true q = let n : Status.Bad ≡ Status.Is s = ap status_word (sym (same_equal w (ascii "-") q)) ∙ e in let z : ◌≡◌ {A = ℕ} 0 1 = cc in absurd (omega arith)
     go w e false q = ap diff_by e
 

@@ -12,8 +12,7 @@ use Rattle.text.specs.Ascii.{ascii}
 use Rattle.text.specs.Parts.{before, after, part, parts, same_text}
 use Rattle.text.specs.Numbers.{decimal_of, signed_of, fit32, fit16}
 use Rattle.span.specs.Chunk.{UNKNOWN, START, END, move_chunk}
-use Rattle.span.specs.declared.ids.OptId.TheVariants as OptId
-use Rattle.span.specs.declared.span.OptStatus.TheVariants as OptStatus
+use Rattle.std.specs.Prelude as OptId
 use Rattle.store.specs.Row.{id_of, status_of}
 use Rattle.script.specs.declared.field.IdField.{IdField}
 use Rattle.script.specs.declared.field.IdField.TheVariants as Id
@@ -59,10 +58,10 @@ id_word w = id_from (before 46 w) (after 46 w)
 -- an id, or `-`
 abbrev pub opt_by : IdField → OptIdField
 opt_by Id.Bad = Opt.Bad
-opt_by (Id.Is i) = Opt.Is (OptId.At i)
+opt_by (Id.Is i) = Opt.Is (OptId.Some i)
 
 unfoldable pub opt_word : List ℕ → OptIdField
-opt_word w = if same_text w (ascii "-") then Opt.Is OptId.Nothing else opt_by (id_word w)
+opt_word w = if same_text w (ascii "-") then Opt.Is OptId.None else opt_by (id_word w)
 
 abbrev pub status_by : Bool → Number16 → StatusField
 status_by f U16.Nothing = Status.Bad
@@ -80,10 +79,10 @@ status_word w =
 -- a status, or `-`
 abbrev pub diff_by : StatusField → OptStatusField
 diff_by Status.Bad = Diff.Bad
-diff_by (Status.Is s) = Diff.Is (OptStatus.Is s)
+diff_by (Status.Is s) = Diff.Is (OptId.Some s)
 
 unfoldable pub diff_word : List ℕ → OptStatusField
-diff_word w = if same_text w (ascii "-") then Diff.Is OptStatus.Nothing else diff_by (status_word w)
+diff_word w = if same_text w (ascii "-") then Diff.Is OptId.None else diff_by (status_word w)
 
 -- an i16
 abbrev pub change_by : Number16 → ChangeField

@@ -3,11 +3,10 @@ use Rattle.std.specs.Prelude.{ℕ, Bool, List, [], ◌∷◌, ◌++◌, if◌the
 use Rattle.text.specs.Ascii.{ascii}
 use Rattle.text.specs.Numbers.{numeral, int_text}
 use Rattle.span.specs.declared.ids.Id.{Id}
-use Rattle.span.specs.declared.ids.OptId.{OptId}
-use Rattle.span.specs.declared.ids.OptId.TheVariants as OptId
+use Rattle.span.specs.Maybe.{OptId}
+use Rattle.std.specs.Prelude as OptId
 use Rattle.span.specs.declared.status.Status.{Status}
-use Rattle.span.specs.declared.span.OptStatus.{OptStatus}
-use Rattle.span.specs.declared.span.OptStatus.TheVariants as OptStatus
+use Rattle.span.specs.Maybe.{OptStatus}
 use Rattle.span.specs.declared.span.FugueSpan.{FugueSpan}
 use Rattle.span.specs.declared.chunk.RichtextChunk.{RichtextChunk}
 use Rattle.span.specs.declared.chunk.RichtextChunkValue.{RichtextChunkValue}
@@ -31,8 +30,8 @@ unfoldable pub id_text : Id → List ℕ
 id_text i = (32 ∷ peer_text i.peer) ++ ascii "." ++ int_text i.counter
 
 unfoldable pub opt_id_text : OptId → List ℕ
-opt_id_text OptId.Nothing = ascii " -"
-opt_id_text (OptId.At i) = id_text i
+opt_id_text OptId.None = ascii " -"
+opt_id_text (OptId.Some i) = id_text i
 
 abbrev pub future_text : Bool → List ℕ
 future_text f = if f then ascii " future:" else ascii " now:"
@@ -42,8 +41,8 @@ unfoldable pub status_text : Status → List ℕ
 status_text s = future_text s.future ++ int_text s.delete_times
 
 unfoldable pub opt_status_text : OptStatus → List ℕ
-opt_status_text OptStatus.Nothing = ascii " -"
-opt_status_text (OptStatus.Is s) = status_text s
+opt_status_text OptId.None = ascii " -"
+opt_status_text (OptId.Some s) = status_text s
 
 -- a name and a number
 unfoldable pub named_text : List ℕ → ℕ → List ℕ

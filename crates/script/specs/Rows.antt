@@ -6,8 +6,7 @@ use Rattle.text.specs.Parts.{rest, parts, same_text}
 use Rattle.text.specs.Numbers.{is_digit, all_digits, value, up_to, decimal_of, places, numeral, int_text, negated, signed_of, fit32, fit16}
 use Rattle.span.specs.Chunk.{by_start, chunk, move_chunk}
 use Rattle.span.specs.Ids.{id, UNKNOWN_PEER}
-use Rattle.span.specs.declared.ids.OptId.TheVariants as OptId
-use Rattle.span.specs.declared.span.OptStatus.TheVariants as OptStatus
+use Rattle.std.specs.Prelude as OptId
 use Rattle.script.specs.declared.call.Insert.{Insert}
 use Rattle.script.specs.declared.call.Delete.{Delete}
 use Rattle.script.specs.declared.call.SetFuture.TheVariants as Set
@@ -44,11 +43,11 @@ pub record Rows : Type 0 where
       ≡ Look (Look.Row 2 (record {
         id = id 1 (pos 1);
         lamport = 1;
-        real_id = OptId.At (id 1 (pos 1));
+        real_id = OptId.Some (id 1 (pos 1));
         status = record { future = true; delete_times = pos 0 };
-        diff_status = OptStatus.Nothing;
-        origin_left = OptId.At (id 1 (pos 0));
-        origin_right = OptId.Nothing;
+        diff_status = OptId.None;
+        origin_left = OptId.Some (id 1 (pos 0));
+        origin_right = OptId.None;
         content = chunk 1 2;
       }))
   -- no call: an unknown name, two blanks in a row, a word too many or too few, a number past its type, a sign where there is none
@@ -73,17 +72,17 @@ pub record Answers : Type 0 where
   pub unit : unit_line (record {
     id = id 1 (pos 1);
     lamport = 1;
-    real_id = OptId.At (id 1 (pos 1));
+    real_id = OptId.Some (id 1 (pos 1));
     status = record { future = true; delete_times = pos 0 };
-    diff_status = OptStatus.Nothing;
-    origin_left = OptId.At (id 1 (pos 0));
-    origin_right = OptId.Nothing;
+    diff_status = OptId.None;
+    origin_left = OptId.Some (id 1 (pos 0));
+    origin_right = OptId.None;
     content = chunk 1 2;
   })
       ≡ ascii "unit 1.1 1 1.1 future:0 - 1.0 - text 1 2" ++ (10 ∷ [])
   -- the unknown peer, a counter and a count below zero
   pub item : item_line (id UNKNOWN_PEER (negsuc 2147483647)) move_chunk ≡ ascii "item U.-2147483648 move" ++ (10 ∷ [])
-  pub diff : opt_status_text (OptStatus.Is (record { future = false; delete_times = negsuc 0 })) ≡ ascii " now:-1"
+  pub diff : opt_status_text (OptId.Some (record { future = false; delete_times = negsuc 0 })) ≡ ascii " now:-1"
   pub at : at_line (id 0 (pos 0)) 4294967295 ≡ ascii "at 0.0 4294967295" ++ (10 ∷ [])
 
 pub answers_hold : Answers

@@ -4,8 +4,8 @@ ghost use Rattle.text.specs.Parts.{parts};
 ghost use Rattle.script.specs.Field.{word_of, number_of, peer_of, id_from, id_word, opt_word, status_from, status_word, diff_word, change_word, flag_word, raw_from, reserved_by, two_words, three_words, chunk_of, span_by, span_of};
 
 use span::chunk::RichtextChunk;
-use span::ids::{Id, OptId, UNKNOWN_PEER};
-use span::span::{FugueSpan, OptStatus};
+use span::ids::{Id, UNKNOWN_PEER};
+use span::span::FugueSpan;
 use span::status::Status;
 use text::numbers::{Number, Number16, Number32, decimal, signed, to_u16, to_u32};
 use text::parts::{after, before, part, parts, same};
@@ -18,7 +18,7 @@ pub enum IdField {
 
 #[derive(Clone, Copy)]
 pub enum OptIdField {
-    Is(OptId),
+    Is(Option<Id>),
     Bad,
 }
 
@@ -30,7 +30,7 @@ pub enum StatusField {
 
 #[derive(Clone, Copy)]
 pub enum OptStatusField {
-    Is(OptStatus),
+    Is(Option<Status>),
     Bad,
 }
 
@@ -115,10 +115,10 @@ pub fn opt_id(w: &[u8]) -> OptIdField
     ensures { result ≡ opt_word w.now }
 {
     if same(w, b"-") {
-        return OptIdField::Is(OptId::Nothing);
+        return OptIdField::Is(None);
     }
     match id(w) {
-        IdField::Is(i) => OptIdField::Is(OptId::At(i)),
+        IdField::Is(i) => OptIdField::Is(Some(i)),
         IdField::Bad => OptIdField::Bad,
     }
 }
@@ -151,10 +151,10 @@ pub fn opt_status(w: &[u8]) -> OptStatusField
     ensures { result ≡ diff_word w.now }
 {
     if same(w, b"-") {
-        return OptStatusField::Is(OptStatus::Nothing);
+        return OptStatusField::Is(None);
     }
     match status(w) {
-        StatusField::Is(s) => OptStatusField::Is(OptStatus::Is(s)),
+        StatusField::Is(s) => OptStatusField::Is(Some(s)),
         StatusField::Bad => OptStatusField::Bad,
     }
 }

@@ -3,8 +3,8 @@ ghost use Rattle.text.specs.Puts.{Puts};
 ghost use Rattle.script.specs.Print.{peer_text, number_text, id_text, opt_id_text, future_text, status_text, opt_status_text, named_text, chunk_text, span_text, head_line, unit_line, span_line, item_line, at_line};
 
 use span::chunk::{AnchorType, RichtextChunk, RichtextChunkValue};
-use span::ids::{Id, OptId, UNKNOWN_PEER};
-use span::span::{FugueSpan, OptStatus};
+use span::ids::{Id, UNKNOWN_PEER};
+use span::span::FugueSpan;
 use span::status::Status;
 use text::puts::{put, put_decimal, put_signed};
 
@@ -37,12 +37,12 @@ pub fn id(out: &mut [u8], at: usize, i: Id) -> usize
     put_signed(out, at, i.counter)
 }
 
-pub fn opt_id(out: &mut [u8], at: usize, o: OptId) -> usize
+pub fn opt_id(out: &mut [u8], at: usize, o: Option<Id>) -> usize
     ensures { Puts at (opt_id_text o) out.old result out.new }
 {
     match o {
-        OptId::Nothing => put(out, at, b" -"),
-        OptId::At(i) => id(out, at, i),
+        None => put(out, at, b" -"),
+        Some(i) => id(out, at, i),
     }
 }
 
@@ -64,12 +64,12 @@ pub fn status(out: &mut [u8], at: usize, s: Status) -> usize
     put_signed(out, at, s.delete_times as i32)
 }
 
-pub fn opt_status(out: &mut [u8], at: usize, d: OptStatus) -> usize
+pub fn opt_status(out: &mut [u8], at: usize, d: Option<Status>) -> usize
     ensures { Puts at (opt_status_text d) out.old result out.new }
 {
     match d {
-        OptStatus::Nothing => put(out, at, b" -"),
-        OptStatus::Is(s) => status(out, at, s),
+        None => put(out, at, b" -"),
+        Some(s) => status(out, at, s),
     }
 }
 

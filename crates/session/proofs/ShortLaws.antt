@@ -7,11 +7,10 @@ use Rattle.text.specs.Ascii.{ascii}
 use Rattle.text.specs.Numbers.{places, numeral, int_text}
 use Rattle.text.proofs.PutsLaws.{placed_fits, written_whole}
 use Rattle.span.specs.declared.ids.Id.{Id}
-use Rattle.span.specs.declared.ids.OptId.{OptId}
-use Rattle.span.specs.declared.ids.OptId.TheVariants as OptId
+use Rattle.span.specs.Maybe.{OptId}
+use Rattle.std.specs.Prelude as OptId
 use Rattle.span.specs.declared.status.Status.{Status}
-use Rattle.span.specs.declared.span.OptStatus.{OptStatus}
-use Rattle.span.specs.declared.span.OptStatus.TheVariants as OptStatus
+use Rattle.span.specs.Maybe.{OptStatus}
 use Rattle.span.specs.declared.span.FugueSpan.{FugueSpan}
 use Rattle.span.specs.declared.span.SpanAnswer.{SpanAnswer}
 use Rattle.span.specs.declared.span.SpanAnswer.TheVariants as Part
@@ -99,8 +98,8 @@ id_most i = simp length-append (omega (arith, peer_most i.peer, int_most i.count
 
 opt_id_most : (o : OptId) → length (opt_id_text o) ≤ 43
 unfolding opt_id_text
-opt_id_most OptId.Nothing = omega arith
-opt_id_most (OptId.At i) = id_most i
+opt_id_most OptId.None = omega arith
+opt_id_most (OptId.Some i) = id_most i
 
 future_most : (f : Bool) → length (future_text f) ≤ 8
 future_most true = omega arith
@@ -112,8 +111,8 @@ status_most s = rw (length-append (future_text s.future) (int_text s.delete_time
 
 opt_status_most : (o : OptStatus) → length (opt_status_text o) ≤ 29
 unfolding opt_status_text
-opt_status_most OptStatus.Nothing = omega arith
-opt_status_most (OptStatus.Is s) = status_most s
+opt_status_most OptId.None = omega arith
+opt_status_most (OptId.Some s) = status_most s
 
 named_most : (name : List ℕ) (n : ℕ) → length (named_text name n) ≤ length name + 21
 unfolding named_text

@@ -2,8 +2,8 @@
 ghost use Rattle.std.specs.Prelude.{◌<◌, ◌%◌, ◌≡◌};
 
 use span::chunk::{AnchorType, RichtextChunk};
-use span::ids::{Id, OptId};
-use span::span::{FugueSpan, OptStatus};
+use span::ids::Id;
+use span::span::FugueSpan;
 use span::status::Status;
 
 // Number i, or 0 past the end.
@@ -57,7 +57,7 @@ pub fn id_at(x: &[u64], i: usize) -> Id
 }
 
 // flag peer counter
-fn optional_id_at(x: &[u64], i: usize) -> OptId
+fn optional_id_at(x: &[u64], i: usize) -> Option<Id>
     requires { i < 64 }
 {
     store::opt_of(flag_at(x, i), u64_at(x, i + 1), u32_at(x, i + 2))
@@ -71,7 +71,7 @@ pub fn status_at(x: &[u64], i: usize) -> Status
 }
 
 // flag future delete_times
-fn optional_status_at(x: &[u64], i: usize) -> OptStatus
+fn optional_status_at(x: &[u64], i: usize) -> Option<Status>
     requires { i < 64 }
 {
     store::maybe_of(flag_at(x, i), flag_at(x, i + 1), low16(u64_at(x, i + 2)))

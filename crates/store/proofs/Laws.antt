@@ -15,10 +15,9 @@ use borrow.Author.Tests.{eq-eqb, ne_eqb}
 use Rattle.words.specs.Le.{le, bytes_of, put}
 use Rattle.words.proofs.Puts.{le_bytes, part_before, part_after}
 use Rattle.store.specs.declared.Words.{Words}
-use Rattle.span.specs.declared.ids.OptId.{OptId}
-use Rattle.span.specs.declared.ids.OptId.TheVariants as M
-use Rattle.span.specs.declared.span.OptStatus.{OptStatus}
-use Rattle.span.specs.declared.span.OptStatus.TheVariants as S
+use Rattle.span.specs.Maybe.{OptId}
+use Rattle.std.specs.Prelude as M
+use Rattle.span.specs.Maybe.{OptStatus}
 use Rattle.span.specs.declared.span.FugueSpan.{FugueSpan}
 use Rattle.store.specs.Row.{rows, words_at, word_bytes, words_of, span_of, row_at, row_bytes, Fitting, Signed, bits16, bits32, maybe_of, opt_of, bit_of, low_of, flags_of, peer_of, ctr_of, has_of, has_status, future_of, times_of}
 
@@ -87,12 +86,12 @@ rest_bits true w = omega arith
 rest_bits false w = omega arith
 
 opt_back : (o : OptId) → SFits w32 (ctr_of o) → opt_of (has_of o) (peer_of o) (bits32 (ctr_of o)) ≡ o
-opt_back M.Nothing h = refl
-opt_back (M.At i) h = rw (to_z-of_z h)
+opt_back M.None h = refl
+opt_back (M.Some i) h = rw (to_z-of_z h)
 
 status_back : (d : OptStatus) → SFits w16 (times_of d) → maybe_of (has_status d) (future_of d) (bits16 (times_of d)) ≡ d
-status_back S.Nothing h = refl
-status_back (S.Is t) h = rw (to_z-of_z h)
+status_back M.None h = refl
+status_back (M.Some t) h = rw (to_z-of_z h)
 
 module _ (a b c d e f : Bool) where
   flag0 : low_of (flags_of a b c d e f) ≡ a

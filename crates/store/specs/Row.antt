@@ -7,11 +7,11 @@ use Rattle.std.specs.Int.{w16, w32}
 use Rattle.std.proofs.Common.{SFits, to_z, of_z}
 use Rattle.words.specs.Le.{le, bytes_of, put}
 use Rattle.span.specs.declared.ids.Id.{Id}
-use Rattle.span.specs.declared.ids.OptId.{OptId}
-use Rattle.span.specs.declared.ids.OptId.TheVariants.{Nothing, At}
+use Rattle.span.specs.Maybe.{OptId}
+use Rattle.std.specs.Prelude.{None as Nothing, Some as At}
 use Rattle.span.specs.declared.status.Status.{Status}
-use Rattle.span.specs.declared.span.OptStatus.{OptStatus}
-use Rattle.span.specs.declared.span.OptStatus.TheVariants as Opt
+use Rattle.span.specs.Maybe.{OptStatus}
+use Rattle.std.specs.Prelude as Opt
 use Rattle.span.specs.declared.span.FugueSpan.{FugueSpan}
 use Rattle.store.specs.declared.Words.{Words}
 
@@ -34,8 +34,8 @@ opt_of false p w = Nothing
 opt_of true p w = At (id_of p w)
 
 abbrev pub maybe_of : Bool → Bool → ℕ → OptStatus
-maybe_of false f w = Opt.Nothing
-maybe_of true f w = Opt.Is (status_of f w)
+maybe_of false f w = Opt.None
+maybe_of true f w = Opt.Some (status_of f w)
 
 abbrev pub low_of : ℕ → Bool
 low_of w = (w % 2) == 1
@@ -95,16 +95,16 @@ has_of Nothing = false
 has_of (At i) = true
 
 abbrev pub has_status : OptStatus → Bool
-has_status Opt.Nothing = false
-has_status (Opt.Is t) = true
+has_status Opt.None = false
+has_status (Opt.Some t) = true
 
 abbrev pub future_of : OptStatus → Bool
-future_of Opt.Nothing = false
-future_of (Opt.Is t) = t.future
+future_of Opt.None = false
+future_of (Opt.Some t) = t.future
 
 abbrev pub times_of : OptStatus → ℤ
-times_of Opt.Nothing = pos 0
-times_of (Opt.Is t) = t.delete_times
+times_of Opt.None = pos 0
+times_of (Opt.Some t) = t.delete_times
 
 abbrev pub bit_of : Bool → ℕ
 bit_of true = 1

@@ -11,8 +11,8 @@ ghost use Rattle.words.specs.Le.{put};
 ghost use Rattle.store.specs.Row.{rows, row_at, words_at, word_bytes, span_of, words_of, id_of, bits32, bits16, status_of, opt_of, maybe_of, peer_of, ctr_of, has_of, has_status, future_of, times_of, bit_of, low_of, flags_of, Signed, PutRow};
 
 use span::chunk::RichtextChunk;
-use span::ids::{Id, OptId};
-use span::span::{FugueSpan, OptStatus};
+use span::ids::Id;
+use span::span::FugueSpan;
 use span::status::Status;
 
 // Signed numbers by their bits, two's complement: LLVM makes each a move.
@@ -71,77 +71,77 @@ pub fn times_bits(s: Status) -> u16
 }
 
 // What may be missing, from its words and back.
-pub fn opt_of(has: bool, peer: u64, w: u32) -> OptId
+pub fn opt_of(has: bool, peer: u64, w: u32) -> Option<Id>
     ensures { result ≡ opt_of has peer w }
 {
     if has {
-        OptId::At(id_of(peer, w))
+        Some(id_of(peer, w))
     } else {
-        OptId::Nothing
+        None
     }
 }
 
-pub fn maybe_of(has: bool, future: bool, w: u16) -> OptStatus
+pub fn maybe_of(has: bool, future: bool, w: u16) -> Option<Status>
     ensures { result ≡ maybe_of has future w }
 {
     if has {
-        OptStatus::Is(status_of(future, w))
+        Some(status_of(future, w))
     } else {
-        OptStatus::Nothing
+        None
     }
 }
 
-pub fn peer_of(o: OptId) -> u64
+pub fn peer_of(o: Option<Id>) -> u64
     ensures { result ≡ peer_of o }
 {
     match o {
-        OptId::Nothing => 0,
-        OptId::At(i) => i.peer,
+        None => 0,
+        Some(i) => i.peer,
     }
 }
 
-pub fn opt_bits(o: OptId) -> u32
+pub fn opt_bits(o: Option<Id>) -> u32
     ensures { (result ≡ bits32 (ctr_of o)) × SFits w32 (ctr_of o) }
 {
     match o {
-        OptId::Nothing => 0,
-        OptId::At(i) => counter_bits(i),
+        None => 0,
+        Some(i) => counter_bits(i),
     }
 }
 
-pub fn has_of(o: OptId) -> bool
+pub fn has_of(o: Option<Id>) -> bool
     ensures { result ≡ has_of o }
 {
     match o {
-        OptId::Nothing => false,
-        OptId::At(_) => true,
+        None => false,
+        Some(_) => true,
     }
 }
 
-pub fn has_status(d: OptStatus) -> bool
+pub fn has_status(d: Option<Status>) -> bool
     ensures { result ≡ has_status d }
 {
     match d {
-        OptStatus::Nothing => false,
-        OptStatus::Is(_) => true,
+        None => false,
+        Some(_) => true,
     }
 }
 
-pub fn future_of(d: OptStatus) -> bool
+pub fn future_of(d: Option<Status>) -> bool
     ensures { result ≡ future_of d }
 {
     match d {
-        OptStatus::Nothing => false,
-        OptStatus::Is(t) => t.future,
+        None => false,
+        Some(t) => t.future,
     }
 }
 
-pub fn diff_bits(d: OptStatus) -> u16
+pub fn diff_bits(d: Option<Status>) -> u16
     ensures { (result ≡ bits16 (times_of d)) × SFits w16 (times_of d) }
 {
     match d {
-        OptStatus::Nothing => 0,
-        OptStatus::Is(t) => times_bits(t),
+        None => 0,
+        Some(t) => times_bits(t),
     }
 }
 

@@ -10,7 +10,7 @@ use lib.IntN.{ℤ, pos, ◌+ℤ◌}
 use lib.Signed.{lt_z, le_z}
 use borrow.Author.Tests.{lt-ltb, ltb-true, le-leb, leb-true, eq-eqb, eqb-true}
 use Rattle.span.specs.declared.ids.Id.{Id}
-use Rattle.span.specs.declared.ids.OptId.TheVariants.{At}
+use Rattle.std.specs.Prelude.{Some as At}
 use Rattle.span.specs.Ids.{room_opt}
 use Rattle.span.specs.Status.{eq_z}
 use Rattle.span.proofs.StatusLaws.{eq_z-true}

@@ -13,7 +13,7 @@ use lib.Seq.{drop-drop}
 use borrow.Author.Tests.{leb-true, eqb-true, eq-eqb, ne_eqb}
 use Rattle.span.specs.declared.chunk.RichtextChunk.{RichtextChunk}
 use Rattle.span.specs.declared.ids.Id.{Id}
-use Rattle.span.specs.declared.ids.OptId.TheVariants.{Nothing, At}
+use Rattle.std.specs.Prelude.{None as Nothing, Some as At}
 use Rattle.span.specs.declared.span.FugueSpan.{FugueSpan}
 use Rattle.span.specs.declared.span.SpanAnswer.{SpanAnswer}
 use Rattle.span.specs.declared.span.SpanAnswer.TheVariants.{Done, Refused}

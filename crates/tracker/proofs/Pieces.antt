@@ -7,8 +7,8 @@ use native.Mathlib.Omega.{arith}
 use lib.ListN.{take, drop}
 use Rattle.span.specs.declared.ids.Id.{Id}
 use Rattle.span.specs.declared.status.Status.{Status}
-use Rattle.span.specs.declared.span.OptStatus.{OptStatus}
-use Rattle.span.specs.declared.span.OptStatus.TheVariants as Opt
+use Rattle.span.specs.Maybe.{OptStatus}
+use Rattle.std.specs.Prelude as Opt
 use Rattle.span.specs.declared.span.FugueSpan.{FugueSpan}
 use Rattle.span.specs.Ids.{room_of, inc_id}
 use Rattle.span.specs.Span.{len_span, span_code, slice_span_code, ids_ok, shift, left_of, part_span}
@@ -69,13 +69,13 @@ module _ (both : Bool) (a b : Version) (l : List Held) (p : FugueSpan) (s : Stat
 
 -- ---- the unit k of a part is seen as its id says
 
-one_unit : (a b : Version) (l : List Held) (u : FugueSpan) (s : Status) → status_at a l u.id ≡ s → stated u s Opt.Nothing ≡ unit_seen false a b l u
+one_unit : (a b : Version) (l : List Held) (u : FugueSpan) (s : Status) → status_at a l u.id ≡ s → stated u s Opt.None ≡ unit_seen false a b l u
 unfolding unit_seen C.unit_at
-one_unit a b l u s e = ap (λ (z : Status). stated u z Opt.Nothing) (sym e)
+one_unit a b l u s e = ap (λ (z : Status). stated u z Opt.None) (sym e)
 
-two_unit : (a b : Version) (l : List Held) (u : FugueSpan) (s z : Status) → status_at a l u.id ≡ s → status_at b l u.id ≡ z → stated u s (Opt.Is z) ≡ unit_seen true a b l u
+two_unit : (a b : Version) (l : List Held) (u : FugueSpan) (s z : Status) → status_at a l u.id ≡ s → status_at b l u.id ≡ z → stated u s (Opt.Some z) ≡ unit_seen true a b l u
 unfolding unit_seen unit_between
-two_unit a b l u s z e f = ap₂ (λ (x y : Status). stated u x (Opt.Is y)) (sym e) (sym f)
+two_unit a b l u s z e f = ap₂ (λ (x y : Status). stated u x (Opt.Some y)) (sym e) (sym f)
 
 module _ (a b : Version) (l : List Held) (row : FugueSpan) (from len : ℕ) (ok : span_code row ≡ 0) (some : 0 < len) (few : from + len ≤ len_span row) where
   abbrev p : FugueSpan
@@ -122,10 +122,10 @@ module _ (both : Bool) (a b : Version) (l : List Held) (row : FugueSpan) (from :
     at_first : (k : ℕ) → k < r.len → status_at a l (inc_id (inc_id row.id from) k) ≡ r.status
     at_first k h = ap (λ (j : Id). status_at a l (inc_id j k)) (sym at) ∙ g.same k h
 
-    pub piece_one : both ≡ false → (x : FugueSpan) → x ≡ stated (part_span row from (from + r.len)) r.status Opt.Nothing → Piece both a b l row from x
+    pub piece_one : both ≡ false → (x : FugueSpan) → x ≡ stated (part_span row from (from + r.len)) r.status Opt.None → Piece both a b l row from x
     piece_one f x e =
         subst (λ (t : Bool). Piece t a b l row from x) (sym f)
-        (piece a b l row from r.len ok g.some first_fits false r.status Opt.Nothing
+        (piece a b l row from r.len ok g.some first_fits false r.status Opt.None
         (λ k h. one_unit a b l (unit_at (part_span row from (from + r.len)) k) r.status (ap (status_at a l) (part_id a b l row from r.len ok g.some first_fits k) ∙ at_first k h)) x e)
 
     module _ (z : Reach) (w : Reaches b l i r.len z) where
@@ -135,10 +135,10 @@ module _ (both : Bool) (a b : Version) (l : List Held) (row : FugueSpan) (from :
       at_second : (k : ℕ) → k < z.len → status_at b l (inc_id (inc_id row.id from) k) ≡ z.status
       at_second k h = ap (λ (j : Id). status_at b l (inc_id j k)) (sym at) ∙ w.same k h
 
-      pub piece_two : both ≡ true → (x : FugueSpan) → x ≡ stated (part_span row from (from + z.len)) r.status (Opt.Is z.status) → Piece both a b l row from x
+      pub piece_two : both ≡ true → (x : FugueSpan) → x ≡ stated (part_span row from (from + z.len)) r.status (Opt.Some z.status) → Piece both a b l row from x
       piece_two f x e =
           subst (λ (t : Bool). Piece t a b l row from x) (sym f)
-          (piece a b l row from z.len ok w.some second_fits true r.status (Opt.Is z.status)
+          (piece a b l row from z.len ok w.some second_fits true r.status (Opt.Some z.status)
           (λ k h. two_unit a b l (unit_at (part_span row from (from + z.len)) k) r.status z.status
           (ap (status_at a l) (part_id a b l row from z.len ok w.some second_fits k) ∙ at_first k (omega (arith, h, w.few)))
           (ap (status_at b l) (part_id a b l row from z.len ok w.some second_fits k) ∙ at_second k h)) x e)

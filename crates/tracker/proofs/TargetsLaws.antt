@@ -12,7 +12,7 @@ use lib.Dec.{eqb}
 use lib.IntN.{ℤ, pos, ◌+ℤ◌}
 use borrow.Author.Tests.{eqb-true, ne_eqb}
 use Rattle.span.specs.declared.ids.Id.{Id}
-use Rattle.span.specs.declared.ids.OptId.TheVariants.{At}
+use Rattle.std.specs.Prelude.{Some as At}
 use Rattle.span.specs.declared.span.FugueSpan.{FugueSpan}
 use Rattle.span.specs.Ids.{inc_id, same_id, same_opt, room, room_of}
 use Rattle.span.specs.Units.{tab}

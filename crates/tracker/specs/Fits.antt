@@ -1,8 +1,8 @@
 -- Whether an insert fits: where two lists of units meet, the cursor of a visible position at a version, and whether the scan from there on leaves a new
 -- span at the cursor. The rows stand at another version, so what is future is asked of the version. Assumes nothing.
 use Rattle.std.specs.Prelude.{ℕ, ◌-◌, ◌<◌, ◌≤◌, ◌≡◌, Bool, true, false, not, ◌&&◌, List, [], ◌∷◌, ◌++◌, length, take, drop, if◌then◌else◌, nat_le, ◌==◌}
-use Rattle.span.specs.declared.ids.OptId.{OptId}
-use Rattle.span.specs.declared.ids.OptId.TheVariants.{Nothing, At}
+use Rattle.span.specs.Maybe.{OptId}
+use Rattle.std.specs.Prelude.{None as Nothing, Some as At}
 use Rattle.span.specs.declared.span.FugueSpan.{FugueSpan}
 use Rattle.span.specs.Span.{len_span, span_code, joins_span}
 use Rattle.span.specs.Units.{unit_at, units_of, expand, join}

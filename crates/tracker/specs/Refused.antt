@@ -1,7 +1,7 @@
 -- What refuses an edit, in the parts in which the code asks it. Assumes nothing.
 use Rattle.std.specs.Prelude.{ℕ, ◌-◌, ◌*◌, ◌&&◌, List, pos, drop}
 use Rattle.span.specs.declared.ids.Id.{Id}
-use Rattle.span.specs.declared.ids.OptId.TheVariants.{At}
+use Rattle.std.specs.Prelude.{Some as At}
 use Rattle.span.specs.Ids.{room_opt}
 use Rattle.span.specs.Status.{eq_z}
 use Rattle.units.specs.Codes.{unless}

@@ -1,6 +1,6 @@
 -- A list without its statuses, and rows written again as units are pushed on to them. Assumes nothing.
 use Rattle.std.specs.Prelude.{ℕ, ◌*◌, ◌≤◌, ◌≡◌, Bool, List, [], ◌∷◌, ◌++◌, map, length, drop}
-use Rattle.span.specs.declared.span.OptStatus.TheVariants.{Nothing}
+use Rattle.std.specs.Prelude.{None as Nothing}
 use Rattle.span.specs.declared.span.FugueSpan.{FugueSpan}
 use Rattle.span.specs.Status.{new_status}
 use Rattle.span.specs.Units.{expand, Joined, join}

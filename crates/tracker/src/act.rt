@@ -8,7 +8,7 @@ ghost use Rattle.tracker.specs.Rows.{to_act};
 ghost use Rattle.tracker.specs.Refused.{act_code};
 
 use crate::row::{Does, Pair};
-use span::ids::{Id, OptId};
+use span::ids::Id;
 use span::status::{Counter, counter_of};
 
 // The counters that an edit uses.
@@ -40,7 +40,7 @@ pub fn act_ids(act: Does) -> bool
             let n = c.len();
             lamport <= 4294967295 - n
         }
-        Does::Delete(n, _, start) => OptId::At(start).has_room(n),
+        Does::Delete(n, _, start) => Some(start).has_room(n),
     }
 }
 
@@ -49,7 +49,7 @@ pub fn act_code(id: Id, act: Does) -> u8
     ensures { result ≡ act_code id (to_act act) }
 {
     if act_formed(act) {
-        if OptId::At(id).has_room(size_of(act)) {
+        if Some(id).has_room(size_of(act)) {
             if act_ids(act) { 0 } else { 2 }
         } else {
             2

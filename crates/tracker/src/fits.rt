@@ -18,7 +18,7 @@ use rope::check::units;
 use rope::find::has;
 use rope::insert::with_origins;
 use rope::place::{judge, parent_pos};
-use span::ids::{Id, OptId};
+use span::ids::Id;
 use span::span::FugueSpan;
 use units::place::Verdict;
 
@@ -51,7 +51,7 @@ pub fn right_at(
     t: &[u8],
     v: &[u8],
     m: usize,
-) -> OptId
+) -> Option<Id>
     requires { Sees n s.now h e.now t.now m v.now m v.now × (at ≤ n) }
     ensures { result ≡ first_in (pairs m v.now) (drop at (rows n s.now)) }
 {
@@ -60,11 +60,11 @@ pub fn right_at(
         let row = store::get_row(s, i);
         let id = row.id;
         if !future_at(e, h, t, v, m, id) {
-            return OptId::At(id);
+            return Some(id);
         }
         i += 1;
     }
-    OptId::Nothing
+    None
 }
 
 // What a scanned row does: i rows of the part were scanned before it.
@@ -75,8 +75,8 @@ pub fn weigh(
     n: usize,
     count: usize,
     row: FugueSpan,
-    x: OptId,
-    o: OptId,
+    x: Option<Id>,
+    o: Option<Id>,
     p: usize,
     q: u64,
 ) -> Verdict
@@ -105,8 +105,8 @@ pub fn stays(
     t: &[u8],
     v: &[u8],
     m: usize,
-    x: OptId,
-    o: OptId,
+    x: Option<Id>,
+    o: Option<Id>,
     p: usize,
     q: u64,
 ) -> bool
@@ -144,8 +144,8 @@ pub fn stays_from(
     t: &[u8],
     v: &[u8],
     m: usize,
-    x: OptId,
-    o: OptId,
+    x: Option<Id>,
+    o: Option<Id>,
     q: u64,
 ) -> bool
     requires { Sees n s.now h e.now t.now m v.now m v.now × (at ≤ n) }
@@ -175,9 +175,9 @@ pub fn joins_at(
 {
     let right = right_at(s, n, at, e, h, t, v, m);
     let id = u.id;
-    let y = with_origins(x, OptId::At(id), right);
+    let y = with_origins(x, Some(id), right);
     if u.can_merge(y) {
-        stays_from(s, n, at, e, h, t, v, m, OptId::At(id), right, x.id.peer)
+        stays_from(s, n, at, e, h, t, v, m, Some(id), right, x.id.peer)
     } else {
         false
     }

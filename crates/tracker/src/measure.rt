@@ -11,7 +11,6 @@ ghost use Rattle.tracker.specs.Measures.{changed, measured, measured_all, Measur
 use crate::seen::next_piece;
 use rope::apply::keep_last;
 use rope::stream::push;
-use span::ids::OptId;
 use span::span::{DiffStatus, FugueSpan};
 
 // Whether each insert has a real id, how many rows and entries there are, and the visible units since the last change.
@@ -23,12 +22,12 @@ pub struct Measure {
     pub gap: u32,
 }
 
-fn is_real(real: OptId) -> bool
+fn is_real(real: Option<Id>) -> bool
     ensures { result ≡ is_real real }
 {
     match real {
-        OptId::Nothing => false,
-        OptId::At(_) => true,
+        None => false,
+        Some(_) => true,
     }
 }
 

@@ -14,14 +14,14 @@ ghost use Rattle.tracker.specs.Restate.{bare_span, bare_units, Fits, Grown, Refi
 use crate::seen::seen_piece;
 use rope::change::with_state;
 use rope::stream::push;
-use span::span::{FugueSpan, OptStatus};
+use span::span::FugueSpan;
 use span::status::Status;
 
 pub fn bare(row: FugueSpan) -> FugueSpan
     ensures { result ≡ bare_span row }
 {
     let real = row.real_id;
-    with_state(row, Status::default(), OptStatus::Nothing, real)
+    with_state(row, Status::default(), None, real)
 }
 
 // The rows without their statuses, joined again: never more of them. The answer is their number.

@@ -16,7 +16,7 @@ use crate::row::{Does, Head, get_head};
 use rope::check::units;
 use rope::find::{Offset, offset_of};
 use span::chunk::RichtextChunk;
-use span::ids::{Id, OptId, UNKNOWN_PEER};
+use span::ids::{Id, UNKNOWN_PEER};
 use span::span::{FugueSpan, SpanAnswer};
 use store::limits::UNITS;
 
@@ -79,7 +79,7 @@ fn reach(row: FugueSpan, k: u32, x: FugueSpan) -> u32
 {
     let u = unit(row, k);
     let id = u.id;
-    match offset_of(x, OptId::At(id)) {
+    match offset_of(x, Some(id)) {
         Offset::Nothing => 0,
         Offset::At(d) => {
             if same_unit(u, unit(x, d)) {

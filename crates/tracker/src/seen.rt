@@ -20,7 +20,7 @@ use rope::apply::{keep_last, push_row};
 use rope::change::{Change, Delete, with_state};
 use rope::seek::active_of;
 use rope::stream::push;
-use span::span::{FugueSpan, OptStatus};
+use span::span::FugueSpan;
 use span::status::Status;
 
 // A piece, and the place behind it: a row, and a unit in it.
@@ -32,7 +32,7 @@ pub struct Step {
 }
 
 // len units of a row from `from` on, with these statuses. An inner function: the callers know that the row has these units.
-pub fn part_with(row: FugueSpan, from: u32, len: u32, status: Status, diff: OptStatus) -> FugueSpan
+pub fn part_with(row: FugueSpan, from: u32, len: u32, status: Status, diff: Option<Status>) -> FugueSpan
     requires { (span_code row ≡ 0) × (0 < len) × (from + len ≤ len_span row) }
     ensures { result ≡ with_state (part_span row from (from + len)) status diff (part_span row from (from + len)).real_id }
 {
@@ -63,9 +63,9 @@ pub fn seen_piece(
     if both {
         let second = status_run(e, h, t, b, kb, id, first.len);
         let other = second.status;
-        part_with(row, from, second.len, status, OptStatus::Is(other))
+        part_with(row, from, second.len, status, Some(other))
     } else {
-        part_with(row, from, first.len, status, OptStatus::Nothing)
+        part_with(row, from, first.len, status, None)
     }
 }
 

@@ -14,7 +14,6 @@ ghost use Rattle.tracker.specs.Follow.{ids_in, ids_of, in_order, runs_into, well
 
 use crate::row::{Does, Target, get_head, get_target, get_took};
 use rope::find::{Offset, offset_of};
-use span::ids::OptId;
 use span::span::FugueSpan;
 
 // How many ids of a range are found, and how many units of a row are passed.
@@ -31,7 +30,7 @@ fn walk(row: FugueSpan, k: u32, r: Target, o: u32) -> Walked
 {
     let x = r.id.inc(o);
     let n = row.rle_len();
-    match offset_of(row, OptId::At(x)) {
+    match offset_of(row, Some(x)) {
         Offset::Nothing => Walked {
             found: o,
             passed: n,

@@ -2,7 +2,7 @@
 use Rattle.std.specs.Prelude.{ℕ, zero, suc, ◌+◌, Bool, true, false, not, ◌&&◌, ◌||◌, List, [], ◌∷◌, ℤ, pos, ◌+ℤ◌, ◌-ℤ◌, length, if◌then◌else◌, nat_le, ◌==◌}
 use Rattle.std.specs.Int.Signed.{le_z}
 use Rattle.span.specs.declared.ids.Id.{Id}
-use Rattle.span.specs.declared.ids.OptId.TheVariants.{At}
+use Rattle.std.specs.Prelude.{Some as At}
 use Rattle.span.specs.declared.span.FugueSpan.{FugueSpan}
 use Rattle.span.specs.Chunk.{formed}
 use Rattle.span.specs.Ids.{UNKNOWN_PEER, inc_id, room_opt}

@@ -2,8 +2,8 @@
 use Rattle.std.specs.Prelude.{ℕ, ◌+◌, Bool, true, false, ◌&&◌, List, [], ◌∷◌, if◌then◌else◌, ◌==◌}
 use Rattle.span.specs.declared.chunk.RichtextChunk.{RichtextChunk}
 use Rattle.span.specs.declared.ids.Id.{Id}
-use Rattle.span.specs.declared.ids.OptId.{OptId}
-use Rattle.span.specs.declared.ids.OptId.TheVariants as OptI
+use Rattle.span.specs.Maybe.{OptId}
+use Rattle.std.specs.Prelude as OptI
 use Rattle.span.specs.declared.span.FugueSpan.{FugueSpan}
 use Rattle.span.specs.declared.span.DiffStatus.{DiffStatus}
 use Rattle.span.specs.declared.span.DiffStatus.TheVariants.{NotChanged, Created, Deleted}
@@ -45,8 +45,8 @@ entries l = entries_from l 0
 -- ---------------------------------------------------------------- a delta would insert a unit without real id: 12
 
 abbrev pub is_real : OptId → Bool
-is_real OptI.Nothing = false
-is_real (OptI.At i) = true
+is_real OptI.None = false
+is_real (OptI.Some i) = true
 
 abbrev pub real_if_created : DiffStatus → OptId → Bool
 real_if_created NotChanged r = true

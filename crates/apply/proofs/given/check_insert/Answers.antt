@@ -1,5 +1,5 @@
 use mathlib.Core.Path.{◌≡◌, refl, sym, ap, ◌∙◌}
-use Rattle.span.specs.declared.ids.OptId.TheVariants.{At}
+use Rattle.std.specs.Prelude.{Some as At}
 use Rattle.span.specs.Ids.{room_opt}
 use Rattle.span.specs.Chunk.{len_of}
 use Rattle.apply.specs.Apply.{lamport_fits}

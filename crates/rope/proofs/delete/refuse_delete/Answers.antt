@@ -2,7 +2,7 @@ use Rattle.units.specs.Place.{shown}
 use Rattle.store.specs.Row.{rows}
 use Rattle.span.specs.Units.{expand}
 use Rattle.span.specs.Ids.{room_opt}
-use Rattle.span.specs.declared.ids.OptId.TheVariants.{At}
+use Rattle.std.specs.Prelude.{Some as At}
 use Prim.Native.Nat.{◌+◌, ◌≤◌}
 use native.Mathlib.Omega.{arith}
 use mathlib.Core.Bool.{true}

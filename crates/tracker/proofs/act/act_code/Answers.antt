@@ -1,6 +1,6 @@
 use Rattle.tracker.proofs.HeldLaws.{act_by}
 use mathlib.Core.Path.{◌≡◌, refl, sym, ap, ◌∙◌}
-use Rattle.span.specs.declared.ids.OptId.TheVariants.{At}
+use Rattle.std.specs.Prelude.{Some as At}
 use Rattle.span.specs.Ids.{room_opt}
 use Rattle.history.specs.Edit.{size_of}
 use Rattle.tracker.specs.Rows.{to_act}

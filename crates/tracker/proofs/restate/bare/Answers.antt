@@ -1,6 +1,6 @@
 use mathlib.Core.Path.{ap, ◌∙◌}
 use Rattle.span.specs.declared.status.Status.{Status}
-use Rattle.span.specs.declared.span.OptStatus.TheVariants.{Nothing}
+use Rattle.std.specs.Prelude.{None as Nothing}
 use Rattle.units.specs.Change.{with_state}
 use Rattle.tracker.specs.Restate.{bare_span}
 use Rattle.tracker.proofs.restate.bare.Goals as goal

@@ -1,4 +1,4 @@
-use Rattle.span.specs.declared.ids.OptId.{OptId}
+use Rattle.span.specs.Maybe.{OptId}
 use Rattle.span.specs.declared.status.Status.{Status}
 use mathlib.Core.Path.{sym, ap₂, ◌∙◌}
 use Rattle.rope.proofs.Cuts.{gone}

@@ -1,6 +1,6 @@
 use Rattle.span.proofs.IdsLaws.{room_opt_lem}
 use Rattle.span.specs.Ids.{inc_opt}
-use Rattle.span.specs.declared.ids.OptId.TheVariants.{At}
+use Rattle.std.specs.Prelude.{Some as At}
 use mathlib.Core.Path.{ap}
 use Rattle.span.proofs.ids.OptId.inc.Goals as goal
 

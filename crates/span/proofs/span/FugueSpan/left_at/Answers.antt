@@ -1,7 +1,7 @@
 use Rattle.span.proofs.SpanLaws.{span_ok, left_past}
 use Rattle.span.proofs.IdsLaws.{room_less}
 use Rattle.span.specs.Span.{left_of}
-use Rattle.span.specs.declared.ids.OptId.TheVariants.{At}
+use Rattle.std.specs.Prelude.{Some as At}
 use native.Mathlib.Omega.{arith}
 use mathlib.Core.Path.{ap, ◌∙◌, sym}
 use Rattle.span.proofs.span.FugueSpan.left_at.Goals as goal
