@@ -13,7 +13,8 @@ use Rattle.span.specs.Units.{tab}
 use Rattle.span.proofs.AnswerLaws.{lower_zero, is_done, is_refused}
 use Rattle.rope.specs.Columns.{least}
 use Rattle.apply.specs.declared.item.Item.{Item}
-use Rattle.apply.specs.declared.delta.ApplyAnswer.TheVariants.{Done, Refused}
+use Rattle.std.specs.Prelude.{Ok as Done}
+use Rattle.span.specs.Refusal.{refused as Refused}
 use Rattle.apply.specs.Apply.{Given, used, applied, apply_code}
 use Rattle.apply.specs.Items.{item_in, items_in, items_bytes}
 use Rattle.apply.specs.Given.{given_at, givens, given_code, item_code, lowest, new_len}

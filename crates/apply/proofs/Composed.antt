@@ -21,14 +21,16 @@ use Rattle.units.specs.Store.{count, spans_of, is_state}
 use Rattle.units.specs.declared.diff.Entry.{Entry}
 use Rattle.units.specs.Delta.{insertable, entries}
 use Rattle.rope.specs.declared.diff.EntryNumbers.{EntryNumbers}
-use Rattle.rope.specs.declared.diff.DiffAnswer.{DiffAnswer}
-use Rattle.rope.specs.declared.diff.DiffAnswer.TheVariants as Diff
+use Rattle.rope.specs.Maybe.{DiffAnswer}
+use Rattle.std.specs.Prelude.{Ok}
+use Rattle.span.specs.Refusal.{refused}
 use Rattle.rope.specs.Columns.{column, column_of, least, diff_rows_code, get_diff_code, Diffed, diff_number}
 use Rattle.rope.proofs.States.{state_of, part_spans}
 use Rattle.rope.proofs.WellFormed.{formed_of}
 use Rattle.apply.specs.declared.item.Item.{Item}
-use Rattle.apply.specs.declared.delta.ApplyAnswer.{ApplyAnswer}
-use Rattle.apply.specs.declared.delta.ApplyAnswer.TheVariants.{Done, Refused}
+use Rattle.apply.specs.Maybe.{ApplyAnswer}
+use Rattle.std.specs.Prelude.{Ok as Done}
+use Rattle.span.specs.Refusal.{refused as Refused}
 use Rattle.apply.specs.Apply.{Known, items, new_unit, applied, apply_code, used}
 use Rattle.apply.specs.Items.{items_in, items_bytes}
 use Rattle.apply.specs.Given.{givens}
@@ -50,7 +52,7 @@ pub record Calls (s k0 a0 b0 p0 c0 l0 old0 out0 : List ℕ) : Type 0 where
   pub p : List ℕ
   pub c : List ℕ
   pub l : List ℕ
-  pub diffed : Diffed (get_diff_code (least (length k0) (length a0) (length b0) (length p0) (length c0) (length l0)) s) (spans_of s) (Diff.Done n) k0 a0 b0 p0 c0 l0 k a b p c l
+  pub diffed : Diffed (get_diff_code (least (length k0) (length a0) (length b0) (length p0) (length c0) (length l0)) s) (spans_of s) (Ok n) k0 a0 b0 p0 c0 l0 k a b p c l
   pub m : ℕ
   pub old : List ℕ
   pub shown : Called (visible_code s old0) (shown_items (spans_of s)) old0 (Done m) old
@@ -69,7 +71,7 @@ calls s k0 a0 b0 p0 c0 l0 old0 out0 d w =
       p = _;
       c = _;
       l = _;
-      diffed = record { said = is_done Diff.Done Diff.Refused _ d refl; kind = refl; first = refl; second = refl; peer = refl; counter = refl; lamport = refl };
+      diffed = record { said = is_done Ok refused _ d refl; kind = refl; first = refl; second = refl; peer = refl; counter = refl; lamport = refl };
       m = length (shown_items (spans_of s));
       old = _;
       shown = record { said = is_done Done Refused _ w refl; left = refl };
@@ -89,8 +91,8 @@ room_code new out = unless (leb (length new) (length (items_in out))) 13 0
 
 -- the number of an answer, and what it counts
 abbrev diff_count : DiffAnswer → ℕ
-diff_count (Diff.Done n) = n
-diff_count (Diff.Refused k) = 0
+diff_count (Ok n) = n
+diff_count (refused k) = 0
 
 abbrev items_number : ApplyAnswer → ℕ
 items_number (Done n) = 0
@@ -100,11 +102,11 @@ abbrev items_count : ApplyAnswer → ℕ
 items_count (Done n) = n
 items_count (Refused k) = 0
 
-diff_done : (code x n : ℕ) → Diff.Done n ≡ answer Diff.Done Diff.Refused code x → (code ≡ 0) × (n ≡ x)
+diff_done : (code x n : ℕ) → Ok n ≡ answer Ok refused code x → (code ≡ 0) × (n ≡ x)
 unfolding answer
 diff_done code x n e = go (eqb code 0) refl e
   where
-    go : (t : Bool) → eqb code 0 ≡ t → Diff.Done n ≡ cond t (Diff.Done x) (Diff.Refused code) → (code ≡ 0) × (n ≡ x)
+    go : (t : Bool) → eqb code 0 ≡ t → Ok n ≡ cond t (Ok x) (refused code) → (code ≡ 0) × (n ≡ x)
     go true q w = (eqb-true code 0 q, ap diff_count w)
     go false q w = absurd (eqb-false code 0 q (sym (ap diff_number w)))
 

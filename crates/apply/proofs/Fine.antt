@@ -20,8 +20,8 @@ use Rattle.span.proofs.SpanLaws.{span_ok}
 use Rattle.span.proofs.Views.{len_pos}
 use Rattle.units.specs.Lists.{every}
 use Rattle.rope.specs.Spans.{AllOk}
-use Rattle.units.specs.declared.diff.OptLamport.{OptLamport}
-use Rattle.units.specs.declared.diff.OptLamport.TheVariants.{Nothing, At}
+use Rattle.units.specs.Maybe.{OptLamport}
+use Rattle.std.specs.Prelude.{None as Nothing, Some as At}
 use Rattle.units.specs.declared.diff.Entry.{Entry}
 use Rattle.units.specs.declared.diff.Entry.TheVariants.{Retain, Delete, Insert}
 use Rattle.units.specs.Delta.{lamport_of, insert_of_span, retain, entry_by, entries_from, entries, is_real, real_if_created, insertable}

@@ -15,7 +15,7 @@ use Rattle.span.proofs.AnswerLaws.{lower_by}
 use Rattle.span.specs.Chunk.{len_of, formed}
 use Rattle.span.specs.Ids.{room_of, room_opt}
 use Rattle.span.specs.Units.{tab}
-use Rattle.units.specs.declared.diff.OptLamport.{OptLamport}
+use Rattle.units.specs.Maybe.{OptLamport}
 use Rattle.units.specs.declared.diff.Entry.TheVariants.{Retain, Delete, Insert}
 use Rattle.units.specs.Lists.{every}
 use Rattle.rope.specs.Columns.{Hold}

@@ -22,8 +22,9 @@ use Rattle.units.specs.Store.{count, spans_of, is_state}
 use Rattle.rope.proofs.Rights.{row_drop, row_ok, row_none}
 use Rattle.rope.proofs.WellFormed.{formed_of}
 use Rattle.rope.proofs.States.{part, part_spans}
-use Rattle.apply.specs.declared.delta.ApplyAnswer.{ApplyAnswer}
-use Rattle.apply.specs.declared.delta.ApplyAnswer.TheVariants.{Done, Refused}
+use Rattle.apply.specs.Maybe.{ApplyAnswer}
+use Rattle.std.specs.Prelude.{Ok as Done}
+use Rattle.span.specs.Refusal.{refused as Refused}
 use Rattle.apply.specs.Apply.{item_of, items}
 use Rattle.apply.specs.Items.{items_in, items_bytes}
 use Rattle.apply.specs.Called.{Called, shown_items, shown_code, visible_code}

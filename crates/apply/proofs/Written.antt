@@ -21,7 +21,7 @@ use Rattle.span.proofs.AnswerLaws.{lower_zero}
 use Rattle.span.proofs.IdsLaws.{roomy, room_opt_lem}
 use Rattle.span.proofs.ListLaws.{tab_from}
 use Rattle.span.proofs.UnitLaws.{span_of_lem}
-use Rattle.units.specs.declared.diff.OptLamport.{OptLamport}
+use Rattle.units.specs.Maybe.{OptLamport}
 use Rattle.apply.specs.declared.item.Item.{Item}
 use Rattle.apply.specs.Apply.{Given, item_of, item_at, items_of, lamport_fits, applied, used}
 use Rattle.apply.specs.Items.{items_in, items_bytes}

@@ -12,16 +12,16 @@ use Rattle.span.specs.Ids.{inc_id, room_of, room_opt}
 use Rattle.span.specs.Span.{real_of}
 use Rattle.span.specs.Units.{tab}
 use Rattle.units.specs.Lists.{every, over}
-use Rattle.units.specs.declared.diff.OptLamport.{OptLamport}
-use Rattle.units.specs.declared.diff.OptLamport.TheVariants.{Nothing, At}
+use Rattle.units.specs.Maybe.{OptLamport}
+use Rattle.std.specs.Prelude.{None as Nothing, Some as At}
 use Rattle.units.specs.declared.diff.Entry.TheVariants.{Retain, Delete, Insert}
 use Rattle.units.specs.Query.{visibles}
 use Rattle.units.specs.Codes.{unless, kept}
 use Rattle.units.specs.Change.{with_state}
 use Rattle.apply.specs.declared.item.Item.{Item}
 -- an entry as it is handed in: one of the three kinds, or none of them
-pub use Rattle.apply.specs.declared.given.Given.{Given}
-pub use Rattle.apply.specs.declared.given.Given.TheVariants.{Known, Strange}
+pub use Rattle.apply.specs.Maybe.{Given}
+pub use Rattle.std.specs.Prelude.{Some as Known, None as Strange}
 
 -- a unit as the applier sees it: its real id (own id if none) and its chunk
 unfoldable pub item_of : FugueSpan → Item

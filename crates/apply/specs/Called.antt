@@ -7,8 +7,9 @@ use Rattle.span.specs.Units.{expand}
 use Rattle.units.specs.Store.{spans_of, is_state}
 use Rattle.units.specs.Codes.{unless, kept}
 use Rattle.apply.specs.declared.item.Item.{Item}
-use Rattle.apply.specs.declared.delta.ApplyAnswer.{ApplyAnswer}
-use Rattle.apply.specs.declared.delta.ApplyAnswer.TheVariants.{Done, Refused}
+use Rattle.apply.specs.Maybe.{ApplyAnswer}
+use Rattle.std.specs.Prelude.{Ok as Done}
+use Rattle.span.specs.Refusal.{refused as Refused}
 use Rattle.apply.specs.Apply.{Given, items, used, applied, apply_code}
 use Rattle.apply.specs.Items.{items_in, items_bytes}
 use Rattle.apply.specs.Given.{givens, given_code, lowest}

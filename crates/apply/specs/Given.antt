@@ -11,8 +11,8 @@ use Rattle.span.specs.Answer.{lower}
 use Rattle.span.specs.Units.{tab}
 use Rattle.store.specs.Row.{id_of}
 use Rattle.rope.specs.declared.diff.EntryNumbers.{EntryNumbers}
-use Rattle.units.specs.declared.diff.OptLamport.{OptLamport}
-use Rattle.units.specs.declared.diff.OptLamport.TheVariants.{Nothing, At}
+use Rattle.units.specs.Maybe.{OptLamport}
+use Rattle.std.specs.Prelude.{None as Nothing, Some as At}
 use Rattle.units.specs.declared.diff.Entry.TheVariants.{Retain, Delete, Insert}
 use Rattle.units.specs.Codes.{unless}
 use Rattle.rope.specs.Columns.{numbers, least}

@@ -9,7 +9,7 @@ ghost use Rattle.apply.specs.Items.{item_in, items_in, items_bytes};
 ghost use Rattle.apply.specs.Given.{given_at, given_code, item_code, lowest, takes, gives, new_len, made, bare_span};
 ghost use Rattle.apply.specs.Called.{Allowed, Called, delta_items, delta_code};
 
-use crate::given::{Given, check_given, given_at, gives, takes};
+use crate::given::{check_given, given_at, gives, takes};
 use crate::item::{Item, copy_items, get_item, put_units};
 use rope::diff::shortest;
 use span::chunk::RichtextChunk;
@@ -17,13 +17,6 @@ use span::ids::Id;
 use span::span::FugueSpan;
 use span::status::Status;
 use units::diff::Entry;
-
-// How many items there are now, or the number of the refusal.
-#[derive(Clone, Copy)]
-pub enum ApplyAnswer {
-    Done(usize),
-    Refused(u8),
-}
 
 // ---- Refusals
 
@@ -211,17 +204,17 @@ fn bare(id: Id, content: RichtextChunk) -> FugueSpan
 }
 
 // What an entry gives, from row k of the output on; `at` old units are used up. All refusals were decided before the first write.
-fn put_given(g: Given, old: &[u8], at: usize, out: &mut [u8], k: usize)
+fn put_given(g: Option<Entry>, old: &[u8], at: usize, out: &mut [u8], k: usize)
     requires { (given_code g ≡ 0) × (((at + takes g) * 24 ≤ length old.now) × ((k + gives g) * 24 ≤ length out.old)) }
     ensures { out.new ≡ put (k * 24) (items_bytes (made g (drop at (items_in old.now)))) out.old }
 {
     match g {
-        Given::Known(entry) => match entry {
+        Some(entry) => match entry {
             Entry::Retain(n) => copy_items(old, at, out, k, n as usize),
             Entry::Delete(_) => {}
             Entry::Insert(content, id, _) => put_units(out, k, bare(id, content)),
         },
-        Given::Strange => {}
+        None => {}
     }
 }
 
@@ -265,7 +258,7 @@ pub fn apply(
     lamport: &[u32],
     old: &[u8],
     out: &mut [u8],
-) -> ApplyAnswer
+) -> Result<usize, Refusal>
     ensures { Called (delta_code kind.now a.now b.now peer.now counter.now lamport.now old.now out.old) (delta_items kind.now a.now b.now peer.now counter.now lamport.now old.now) out.old result out.new }
 {
     let n = shortest(
@@ -278,8 +271,8 @@ pub fn apply(
     );
     let code = apply_code(kind, a, b, peer, counter, lamport, n, old, out);
     if code == 0 {
-        ApplyAnswer::Done(write_items(kind, a, b, peer, counter, lamport, n, old, out))
+        Ok(write_items(kind, a, b, peer, counter, lamport, n, old, out))
     } else {
-        ApplyAnswer::Refused(code)
+        Err(code)
     }
 }

@@ -7,18 +7,11 @@ ghost use Rattle.apply.specs.Given.{insert_given, given_of, given_at, takes, giv
 use rope::diff::EntryNumbers;
 use span::chunk::RichtextChunk;
 use span::ids::Id;
-use units::diff::{Entry, OptLamport};
-
-// An entry of a known kind, or none.
-#[derive(Clone, Copy)]
-pub enum Given {
-    Known(Entry),
-    Strange,
-}
+use units::diff::{Entry};
 
 // ---- What the numbers say
 
-fn insert_given(w: EntryNumbers, lamport: OptLamport) -> Given
+fn insert_given(w: EntryNumbers, lamport: Option<u32>) -> Option<Entry>
     ensures { result ≡ insert_given w lamport }
 {
     let content = RichtextChunk {
@@ -26,25 +19,25 @@ fn insert_given(w: EntryNumbers, lamport: OptLamport) -> Given
         end: w.b,
     };
     let id = store::id_of(w.peer, w.counter);
-    Given::Known(Entry::Insert(content, id, lamport))
+    Some(Entry::Insert(content, id, lamport))
 }
 
-pub fn given_of(w: EntryNumbers) -> Given
+pub fn given_of(w: EntryNumbers) -> Option<Entry>
     ensures { result ≡ given_of w }
 {
     if w.kind == 0 {
-        return Given::Known(Entry::Retain(w.a));
+        return Some(Entry::Retain(w.a));
     }
     if w.kind == 1 {
-        return Given::Known(Entry::Delete(w.a));
+        return Some(Entry::Delete(w.a));
     }
     if 3 < w.kind {
-        return Given::Strange;
+        return None;
     }
     if w.kind == 2 {
-        return insert_given(w, OptLamport::At(w.lamport));
+        return insert_given(w, Some(w.lamport));
     }
-    insert_given(w, OptLamport::Nothing)
+    insert_given(w, None)
 }
 
 // The entry in place i of the columns. The loops that call it stay within the shortest column.
@@ -56,7 +49,7 @@ pub fn given_at(
     counter: &[u32],
     lamport: &[u32],
     i: usize,
-) -> Given
+) -> Option<Entry>
     requires { Hold (i + 1) kind.now a.now b.now peer.now counter.now lamport.now }
     ensures { result ≡ given_at kind.now a.now b.now peer.now counter.now lamport.now i }
 {
@@ -72,40 +65,40 @@ pub fn given_at(
 
 // ---- What an entry uses and gives
 
-fn taken(g: Given) -> u32
+fn taken(g: Option<Entry>) -> u32
     ensures { result ≡ takes g }
 {
     match g {
-        Given::Known(entry) => match entry {
+        Some(entry) => match entry {
             Entry::Retain(n) => n,
             Entry::Delete(n) => n,
             Entry::Insert(_, _, _) => 0,
         },
-        Given::Strange => 0,
+        None => 0,
     }
 }
 
-fn added(g: Given) -> u32
+fn added(g: Option<Entry>) -> u32
     ensures { result ≡ gives g }
 {
     match g {
-        Given::Known(entry) => match entry {
+        Some(entry) => match entry {
             Entry::Retain(n) => n,
             Entry::Delete(_) => 0,
             Entry::Insert(content, _, _) => content.len(),
         },
-        Given::Strange => 0,
+        None => 0,
     }
 }
 
 // How many old units an entry uses, and how many new ones it gives.
-pub fn takes(g: Given) -> usize
+pub fn takes(g: Option<Entry>) -> usize
     ensures { (result ≡ takes g) × (result < 4294967296) }
 {
     taken(g) as usize
 }
 
-pub fn gives(g: Given) -> usize
+pub fn gives(g: Option<Entry>) -> usize
     ensures { (result ≡ gives g) × (result < 4294967296) }
 {
     added(g) as usize
@@ -113,16 +106,16 @@ pub fn gives(g: Given) -> usize
 
 // ---- Refusals
 
-fn lamport_fits(lamport: OptLamport, len: u32) -> bool
+fn lamport_fits(lamport: Option<u32>, len: u32) -> bool
     ensures { result ≡ lamport_fits lamport len }
 {
     match lamport {
-        OptLamport::Nothing => true,
-        OptLamport::At(first) => first <= 4294967295 - len,
+        None => true,
+        Some(first) => first <= 4294967295 - len,
     }
 }
 
-fn check_insert(content: RichtextChunk, id: Id, lamport: OptLamport) -> u8
+fn check_insert(content: RichtextChunk, id: Id, lamport: Option<u32>) -> u8
     ensures { result ≡ insert_code content id lamport }
 {
     if content.is_formed() {
@@ -145,15 +138,15 @@ fn check_len(n: u32) -> u8
 }
 
 // The refusal that an entry itself gives, or 0.
-pub fn check_given(g: Given) -> u8
+pub fn check_given(g: Option<Entry>) -> u8
     ensures { result ≡ given_code g }
 {
     match g {
-        Given::Known(entry) => match entry {
+        Some(entry) => match entry {
             Entry::Retain(n) => check_len(n),
             Entry::Delete(n) => check_len(n),
             Entry::Insert(content, id, lamport) => check_insert(content, id, lamport),
         },
-        Given::Strange => 14,
+        None => 14,
     }
 }

@@ -10,7 +10,6 @@ ghost use Rattle.apply.specs.Apply.{items};
 ghost use Rattle.apply.specs.Items.{items_bytes};
 ghost use Rattle.apply.specs.Called.{Called, shown_items, shown_code, visible_code};
 
-use crate::delta::ApplyAnswer;
 use crate::item::put_units;
 use rope::seek::{active_of, visible};
 use rope::state::check;
@@ -43,24 +42,24 @@ fn write_shown(s: &[u8], n: usize, out: &mut [u8])
 }
 
 // visible_items of the rows. The entry has checked that they are a well formed list.
-fn visible_rows(s: &[u8], n: usize, out: &mut [u8]) -> ApplyAnswer
+fn visible_rows(s: &[u8], n: usize, out: &mut [u8]) -> Result<usize, Refusal>
     requires { Stored n s.now }
     ensures { Called (shown_code (rows n s.now) out.old) (shown_items (rows n s.now)) out.old result out.new }
 {
     let many = visible(s, n);
     if out.len() / 24 < many {
-        return ApplyAnswer::Refused(13);
+        return Err(13);
     }
     write_shown(s, n, out);
-    ApplyAnswer::Done(many)
+    Ok(many)
 }
 
 // The visible units of a store, in list order, written to the output's front; the answer is how many there are.
-pub fn visible_items(s: &[u8], out: &mut [u8]) -> ApplyAnswer
+pub fn visible_items(s: &[u8], out: &mut [u8]) -> Result<usize, Refusal>
     ensures { Called (visible_code s.now out.old) (shown_items (spans_of s.now)) out.old result out.new }
 {
     if !check(s) {
-        return ApplyAnswer::Refused(15);
+        return Err(15);
     }
     let n = header::count(s) as usize;
     visible_rows(&s[72..], n, out)

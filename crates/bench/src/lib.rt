@@ -1,9 +1,8 @@
 // Questions to a store and the calls of a history, for the programs in tests/, which own the memory. Crate `bench_c` exports them.
 #![tactic(auto)]
 
-use rope::diff::DiffAnswer;
 use rope::find::Found;
-use rope::query::{LenAnswer, RealAnswer};
+use rope::query::{RealAnswer};
 use span::ids::Id;
 
 #[unsafe(no_mangle)]
@@ -14,8 +13,8 @@ pub extern "C" fn bench_check(s: &[u8]) -> bool {
 #[unsafe(no_mangle)]
 pub extern "C" fn bench_visible_len(s: &[u8]) -> u64 {
     match rope::query::visible_len(s) {
-        LenAnswer::Done(n) => n as u64,
-        LenAnswer::Refused(_) => 0,
+        Ok(n) => n as u64,
+        Err(_) => 0,
     }
 }
 
@@ -98,8 +97,8 @@ pub extern "C" fn bench_open(s: &mut [u8], t: &[u8], e: &mut [u8]) -> u8 {
 #[unsafe(no_mangle)]
 pub extern "C" fn bench_history_len(s: &[u8], t: &[u8], e: &[u8]) -> u64 {
     match tracker::query::visible_len(s, t, e) {
-        LenAnswer::Done(n) => (n as u64) << 8,
-        LenAnswer::Refused(code) => code as u64,
+        Ok(n) => (n as u64) << 8,
+        Err(code) => code as u64,
     }
 }
 
@@ -145,7 +144,7 @@ pub extern "C" fn bench_delta(
         counter,
         lamport,
     ) {
-        DiffAnswer::Done(n) => (n as u64) << 8,
-        DiffAnswer::Refused(code) => code as u64,
+        Ok(n) => (n as u64) << 8,
+        Err(code) => code as u64,
     }
 }

@@ -10,7 +10,7 @@ use Rattle.span.specs.Units.{tab, expand}
 use Rattle.units.specs.declared.diff.Entry.{Entry}
 use Rattle.units.specs.declared.diff.Entry.TheVariants.{Retain}
 use Rattle.units.specs.declared.diff.Entry.TheVariants as D
-use Rattle.units.specs.declared.diff.OptLamport.TheVariants as L
+use Rattle.std.specs.Prelude.{Some}
 use Rattle.history.specs.Edit.{Version, Edit, History}
 use Rattle.history.specs.Tree.{tree_of}
 use Rattle.history.specs.Codes.{arrive_code, delta_of}
@@ -111,7 +111,7 @@ pub record Rows : Type 0 where
   pub p9 : reals (run (new 4) (del 2 9 0 1 false (u 9 40) [] ∷ [])) ≡ Nothing ∷ At (u 9 40) ∷ At (u 9 41) ∷ Nothing ∷ []
   pub p9_reversed : (run (new 4) (del 2 9 0 1 true (u 9 40) [] ∷ [])).list ≡ (run (new 4) (del 2 9 0 1 false (u 9 40) [] ∷ [])).list
   pub p10 : delta_in 2 P10 (1 ∶ 5 ∷ []) (1 ∶ 5 ∷ 2 ∶ 2 ∷ []) ≡ Retain 1 ∷ D.Delete 2 ∷ []
-  pub p11 : delta_in 2 P10 (1 ∶ 5 ∷ 2 ∶ 2 ∷ []) (1 ∶ 5 ∷ []) ≡ Retain 1 ∷ D.Insert (chunk 1 3) (u 1 1) (L.At 1) ∷ []
+  pub p11 : delta_in 2 P10 (1 ∶ 5 ∷ 2 ∶ 2 ∷ []) (1 ∶ 5 ∷ []) ≡ Retain 1 ∷ D.Insert (chunk 1 3) (u 1 1) (Some 1) ∷ []
   pub origins : arrivals 3 hidden ≡ times 1 (u 1 2 ∷ u 1 0 ∷ [])
   pub origins_tree : walked hidden ≡ u 1 2 ∷ u 1 0 ∷ []
   pub holding : arrivals 4 cleared ≡ times 6 (u 1 1 ∷ u 1 0 ∷ u 2 1 ∷ u 2 0 ∷ [])

@@ -8,7 +8,7 @@ use lib.ListN.{length, drop, get_or, get_or-append}
 use borrow.Author.Tests.{eq-eqb}
 use Rattle.units.specs.declared.diff.Entry.{Entry}
 use Rattle.rope.specs.declared.diff.EntryNumbers.{EntryNumbers}
-use Rattle.rope.specs.declared.diff.DiffAnswer.{DiffAnswer}
+use Rattle.rope.specs.Maybe.{DiffAnswer}
 use Rattle.units.specs.Lists.{over}
 use Rattle.units.specs.Store.{spans_of}
 use Rattle.units.specs.Delta.{entries}

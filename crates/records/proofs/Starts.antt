@@ -11,7 +11,8 @@ use Rattle.span.specs.declared.span.FugueSpan.{FugueSpan}
 use Rattle.span.proofs.AnswerLaws.{is_done, is_refused}
 use Rattle.store.specs.Row.{rows}
 use Rattle.rope.specs.declared.diff.Step.{Step}
-use Rattle.rope.specs.declared.diff.DiffAnswer.TheVariants as Diff
+use Rattle.std.specs.Prelude.{Ok}
+use Rattle.span.specs.Refusal.{refused}
 use Rattle.units.specs.Lists.{every}
 use Rattle.units.specs.Store.{count, spans_of, is_state}
 use Rattle.units.specs.Delta.{insertable, entries}
@@ -21,14 +22,14 @@ use Rattle.records.specs.declared.Spot.{Spot}
 use Rattle.records.specs.Records.{spot_of, start_by, step_to, lent, Stepped}
 
 module _ (code : ℕ) (l : List FugueSpan) where
-  pub start_refused : (c : ℕ) → code ≡ c → (c ≡ 0 → ⊥) → spot_of (Diff.Refused c) 0 ≡ start_by code l
+  pub start_refused : (c : ℕ) → code ≡ c → (c ≡ 0 → ⊥) → spot_of (refused c) 0 ≡ start_by code l
   start_refused c e z =
-      ap₂ spot_of (is_refused Diff.Done Diff.Refused code c (length (entries l)) z (sym e))
+      ap₂ spot_of (is_refused Ok refused code c (length (entries l)) z (sym e))
       (sym (ap (λ (t : Bool). cond t (length (entries l)) 0) (ne_eqb code 0 (λ q. z (sym e ∙ q)))))
 
-  pub start_done : code ≡ 0 → (n : ℕ) → n ≡ length (entries l) → spot_of (Diff.Done n) n ≡ start_by code l
+  pub start_done : code ≡ 0 → (n : ℕ) → n ≡ length (entries l) → spot_of (Ok n) n ≡ start_by code l
   start_done e n q =
-      ap₂ spot_of (is_done Diff.Done Diff.Refused code e q)
+      ap₂ spot_of (is_done Ok refused code e q)
       (q ∙ sym (ap (λ (t : Bool). cond t (length (entries l)) 0) (eq-eqb code 0 e)))
 
 get_code : (room : ℕ) (s : List ℕ) → is_state s ≡ true → get_diff_code room s ≡ diff_rows_code room (spans_of s)

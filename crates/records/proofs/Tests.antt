@@ -5,10 +5,10 @@ use lib.IntN.{pos}
 use Rattle.span.specs.declared.ids.Id.{Id}
 use Rattle.span.specs.declared.chunk.RichtextChunk.{RichtextChunk}
 use Rattle.span.specs.Answer.{answer}
-use Rattle.units.specs.declared.diff.OptLamport.TheVariants.{Nothing, At}
+use Rattle.std.specs.Prelude.{None as Nothing, Some as At}
 use Rattle.units.specs.declared.diff.Entry.TheVariants.{Retain, Delete, Insert}
 use Rattle.rope.specs.declared.diff.EntryNumbers.{EntryNumbers}
-use Rattle.rope.specs.declared.diff.DiffAnswer.TheVariants.{Refused}
+use Rattle.span.specs.Refusal.{refused as Refused}
 use Rattle.units.specs.Store.{is_state}
 use Rattle.rope.specs.Columns.{numbers, entry_numbers, get_diff_code}
 use Rattle.records.specs.Records.{records, answer_of, records_after}

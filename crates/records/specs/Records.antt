@@ -6,8 +6,9 @@ use Rattle.units.specs.declared.diff.Entry.{Entry}
 use Rattle.rope.specs.declared.diff.Step.{Step}
 use Rattle.rope.specs.declared.diff.Step.TheVariants.{End, Next}
 use Rattle.rope.specs.declared.diff.EntryNumbers.{EntryNumbers}
-use Rattle.rope.specs.declared.diff.DiffAnswer.{DiffAnswer}
-use Rattle.rope.specs.declared.diff.DiffAnswer.TheVariants as Diff
+use Rattle.rope.specs.Maybe.{DiffAnswer}
+use Rattle.std.specs.Prelude.{Ok}
+use Rattle.span.specs.Refusal.{refused}
 use Rattle.units.specs.Lists.{over}
 use Rattle.units.specs.Store.{count, spans_of, is_state}
 use Rattle.units.specs.Delta.{entries_from, entries}
@@ -23,7 +24,7 @@ records es = map entry_numbers es
 
 -- how many entries there are, or the number of the refusal, in a room of so many records
 abbrev pub answer_of : ℕ → List ℕ → DiffAnswer
-answer_of room s = answer Diff.Done Diff.Refused (get_diff_code room s) (length (entries (spans_of s)))
+answer_of room s = answer Ok refused (get_diff_code room s) (length (entries (spans_of s)))
 
 -- the slice afterwards: the records at its front, or if it is refused what it was
 abbrev pub records_after : List ℕ → List EntryNumbers → List EntryNumbers
@@ -37,7 +38,7 @@ spot_of a n = record { answer = a; many = n; row = 0; gap = 0; numbers = numbers
 
 -- what is refused has no records
 abbrev pub start_by : ℕ → List FugueSpan → Spot
-start_by code l = spot_of (answer Diff.Done Diff.Refused code (length (entries l))) (kept code (length (entries l)) 0)
+start_by code l = spot_of (answer Ok refused code (length (entries l))) (kept code (length (entries l)) 0)
 
 -- a spot after a step
 abbrev pub step_to : Spot → Step → Spot

@@ -12,14 +12,14 @@ ghost use Rattle.rope.specs.Spans.{Stored};
 ghost use Rattle.rope.specs.Columns.{diff_rows_code, get_diff_code};
 ghost use Rattle.records.specs.Records.{spot_of, start_by, step_to, On, Stepped, answer_of, records_after};
 
-use rope::diff::{DiffAnswer, EntryNumbers, Step, all_real, count_entries, next_entry, numbers_of};
+use rope::diff::{EntryNumbers, Step, all_real, count_entries, next_entry, numbers_of};
 use rope::state::check;
 use store::header;
 
 // Where the loop stands: the answer, how many records there are, the row and the gap from which the rest goes on, and the record to store.
 #[derive(Clone, Copy)]
 pub struct Spot {
-    pub answer: DiffAnswer,
+    pub answer: Result<usize, Refusal>,
     pub many: usize,
     pub row: usize,
     pub gap: u32,
@@ -28,7 +28,7 @@ pub struct Spot {
 
 // ---- Before the first entry
 
-fn spot_of(answer: DiffAnswer, many: usize) -> Spot
+fn spot_of(answer: Result<usize, Refusal>, many: usize) -> Spot
     ensures { result ≡ spot_of answer many }
 {
     let none = EntryNumbers {
@@ -54,13 +54,13 @@ fn start_rows(s: &[u8], n: usize, room: usize) -> Spot
     ensures { result ≡ start_by (diff_rows_code room (rows n s.now)) (rows n s.now) }
 {
     if !all_real(s, n) {
-        return spot_of(DiffAnswer::Refused(12), 0);
+        return spot_of(Err(12), 0);
     }
     let many = count_entries(s, n);
     if room < many {
-        return spot_of(DiffAnswer::Refused(13), 0);
+        return spot_of(Err(13), 0);
     }
-    spot_of(DiffAnswer::Done(many), many)
+    spot_of(Ok(many), many)
 }
 
 // All refusals, in a room of so many records.
@@ -68,7 +68,7 @@ fn start(s: &[u8], room: usize) -> Spot
     ensures { result ≡ start_by (get_diff_code room s.now) (spans_of s.now) }
 {
     if !check(s) {
-        return spot_of(DiffAnswer::Refused(15), 0);
+        return spot_of(Err(15), 0);
     }
     let n = header::count(s) as usize;
     start_rows(&s[72..], n, room)
@@ -108,7 +108,7 @@ fn next_record(s: &[u8], at: Spot) -> Spot
 }
 
 // The delta of a store from its spans' status to their diff_status: a record for each entry, and how many there are.
-pub fn get_diff_records(s: &[u8], out: &mut [EntryNumbers]) -> DiffAnswer
+pub fn get_diff_records(s: &[u8], out: &mut [EntryNumbers]) -> Result<usize, Refusal>
     ensures { (result ≡ answer_of (length out.old) s.now) × (out.new ≡ records_after s.now out.old) }
 {
     let mut at = start(s, out.len());

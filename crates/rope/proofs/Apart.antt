@@ -18,8 +18,8 @@ use Rattle.span.proofs.SpanLaws.{span_ok}
 use Rattle.span.proofs.Views.{len_pos}
 use Rattle.span.specs.Units.{units_of, expand}
 use Rattle.store.specs.Row.{rows, row_at}
-use Rattle.rope.specs.declared.find.Offset.{Offset}
-use Rattle.rope.specs.declared.find.Offset.TheVariants as Off
+use Rattle.rope.specs.Maybe.{Offset}
+use Rattle.std.specs.Prelude.{Some, None}
 use Rattle.units.specs.Place.{mem_id}
 use Rattle.rope.specs.Spans.{offset_of, is_at, covered, AllOk, Fresh, meets_span, holds_any}
 use Rattle.rope.proofs.Offsets.{off_unit, unit_off, covers_units}
@@ -71,8 +71,8 @@ module _ (a b : FugueSpan) (oka : span_code a ≡ 0) (okb : span_code b ≡ 0) (
               true≢false (sym (ap (λ (i : Id). covered b (At i)) q ∙ covered_unit b okb (k - j) (omega arith)) ∙ both.1)
 
       pick : (f : Offset) → offset_of a (At (inc_id b.id k)) ≡ f → covered a (At (inc_id b.id k)) ≡ false
-      pick Off.Nothing e = ap is_at e
-      pick (Off.At j) e = absurd (let w = unit_off a oka (At (inc_id b.id k)) j e in let q : inc_id b.id k ≡ inc_id a.id j = cc in clash j w.0 q)
+      pick None e = ap is_at e
+      pick (Some j) e = absurd (let w = unit_off a oka (At (inc_id b.id k)) j e in let q : inc_id b.id k ≡ inc_id a.id j = cc in clash j w.0 q)
 
 fresh_one : (a b : FugueSpan) → span_code a ≡ 0 → span_code b ≡ 0 → meets_span a b ≡ false → (k : ℕ) → k < len_span b → mem_id (At (inc_id b.id k)) (units_of a) ≡ false
 unfolding Fresh
@@ -112,8 +112,8 @@ unfolding meets_span covered
 meets_one a b oka okb e = go (offset_of a (At b.id)) refl e
   where
     other : (f : Offset) → offset_of b (At a.id) ≡ f → is_at (offset_of b (At a.id)) ≡ true → Shared b (units_of a)
-    other Off.Nothing p q = absurd (true≢false (sym q ∙ ap is_at p))
-    other (Off.At k) p q =
+    other None p q = absurd (true≢false (sym q ∙ ap is_at p))
+    other (Some k) p q =
         let w = unit_off b okb (At a.id) k p in
         record {
           k = k;
@@ -122,13 +122,13 @@ meets_one a b oka okb e = go (offset_of a (At b.id)) refl e
         }
 
     go : (f : Offset) → offset_of a (At b.id) ≡ f → cond (is_at (offset_of a (At b.id))) true (is_at (offset_of b (At a.id))) ≡ true → Shared b (units_of a)
-    go (Off.At k) p q =
+    go (Some k) p q =
         record {
           k = 0;
           low = len_pos b.content (span_ok b okb).form;
           has = ap (λ (i : Id). mem_id (At i) (units_of a)) (inc_zero b.id) ∙ (covers_units a oka (At b.id) ∙ ap is_at p);
         }
-    go Off.Nothing p q = other (offset_of b (At a.id)) refl (rw p at q)
+    go None p q = other (offset_of b (At a.id)) refl (rw p at q)
 
 -- a row meets x: one of the ids of x is in the list
 pub shared_of : (l : List FugueSpan) (x : FugueSpan) → AllOk l → span_code x ≡ 0 → holds_any l x ≡ true → Shared x (expand l)

@@ -11,10 +11,10 @@ use Rattle.std.specs.Prelude.{Some as At}
 use Rattle.span.specs.declared.status.Status.{Status}
 use Rattle.span.specs.declared.span.FugueSpan.{FugueSpan}
 use Rattle.span.specs.Ids.{UNKNOWN_PEER, room, room_of, room_opt, inc_id}
-use Rattle.span.specs.declared.status.Counter.{Counter}
-use Rattle.span.specs.declared.status.Counter.TheVariants as Counter
-use Rattle.span.specs.declared.status.StatusAnswer.{StatusAnswer}
-use Rattle.span.specs.declared.status.StatusAnswer.TheVariants as Answer
+use Rattle.span.specs.Maybe.{Counter}
+use Rattle.std.specs.Prelude.{Some, None, Ok}
+use Rattle.span.specs.Refusal.{refused}
+use Rattle.span.specs.Maybe.{StatusAnswer}
 use Rattle.std.specs.Prelude as OptS
 use Rattle.span.specs.Status.{status, eq_z, activated, in_i16, times_of, counter_of}
 use Rattle.span.specs.Span.{len_span, active_len}
@@ -106,24 +106,24 @@ gone s e = ap₂ status (fut s.future t.0) (ap (λ (z : ℤ). z +ℤ pos 1) (zer
 
 -- ---- an update
 
-neg≢at : (c : ℕ) → Counter.Negative ≡ Counter.At c → false ≡ true
+neg≢at : (c : ℕ) → None ≡ Some c → false ≡ true
 neg≢at c e = ap is e
   where
     is : Counter → Bool
-    is Counter.Negative = false
-    is (Counter.At k) = true
+    is None = false
+    is (Some k) = true
 
 module _ (u : Update) (n : ℕ) where
-  pub from_negative : (z : ℤ) → Counter.Negative ≡ counter_of z → part 0 0 ≡ part_from u z n
+  pub from_negative : (z : ℤ) → None ≡ counter_of z → part 0 0 ≡ part_from u z n
   from_negative (pos k) e = absurd (false≢true (neg≢at k e))
   from_negative (negsuc k) e = refl
 
-  pub from_at : (z : ℤ) (c : ℕ) → Counter.At c ≡ counter_of z → part_at u c n ≡ part_from u z n
+  pub from_at : (z : ℤ) (c : ℕ) → Some c ≡ counter_of z → part_at u c n ≡ part_from u z n
   from_at (pos k) c e = ap (λ (m : ℕ). part_at u m n) (ap value e)
     where
       value : Counter → ℕ
-      value Counter.Negative = 0
-      value (Counter.At k) = k
+      value None = 0
+      value (Some k) = k
   from_at (negsuc k) c e = absurd (false≢true (neg≢at c (sym e)))
 
   from_most : (z : ℤ) → ((part_from u z n).from ≤ n) × ((part_from u z n).to ≤ n)
@@ -146,34 +146,34 @@ module _ (u : Update) (s : FugueSpan) where
 
 -- a status whose count is changed
 module _ (f : SetFuture) (k : ℤ) (b : Status) (in_range_lem : in_i16 (b.delete_times +ℤ k) ≡ true) where
-  times_done : times_of b k ≡ Answer.Done (status b.future (b.delete_times +ℤ k))
+  times_done : times_of b k ≡ Ok (status b.future (b.delete_times +ℤ k))
   unfolding times_of
   times_done = rw in_range_lem
 
-  pub status_done : (s : Status) → Answer.Done s ≡ times_of b k → status (set_future f s.future) s.delete_times ≡ change_status f k b
+  pub status_done : (s : Status) → Ok s ≡ times_of b k → status (set_future f s.future) s.delete_times ≡ change_status f k b
   unfolding change_status
   status_done s e = ap (λ (t : Status). status (set_future f t.future) t.delete_times) (ap value (e ∙ times_done))
     where
       value : StatusAnswer → Status
-      value (Answer.Done t) = t
-      value (Answer.Refused n) = b
+      value (Ok t) = t
+      value (refused n) = b
 
-  pub status_refused : (n : ℕ) → Answer.Refused n ≡ times_of b k → b ≡ change_status f k b
+  pub status_refused : (n : ℕ) → refused n ≡ times_of b k → b ≡ change_status f k b
   status_refused n e = absurd (false≢true (ap is (e ∙ times_done)))
     where
       is : StatusAnswer → Bool
-      is (Answer.Done t) = true
-      is (Answer.Refused n) = false
+      is (Ok t) = true
+      is (refused n) = false
 
 -- whether a change of a count is refused
 module _ (b : Status) (k : ℤ) where
-  times_by : (t : Bool) → in_i16 (b.delete_times +ℤ k) ≡ t → times_of b k ≡ cond t (Answer.Done (status b.future (b.delete_times +ℤ k))) (Answer.Refused 11)
+  times_by : (t : Bool) → in_i16 (b.delete_times +ℤ k) ≡ t → times_of b k ≡ cond t (Ok (status b.future (b.delete_times +ℤ k))) (refused 11)
   unfolding times_of
-  times_by t e = ap (λ (c : Bool). cond c (Answer.Done (status b.future (b.delete_times +ℤ k))) (Answer.Refused 11)) e
+  times_by t e = ap (λ (c : Bool). cond c (Ok (status b.future (b.delete_times +ℤ k))) (refused 11)) e
 
   is_done : StatusAnswer → Bool
-  is_done (Answer.Done s) = true
-  is_done (Answer.Refused n) = false
+  is_done (Ok s) = true
+  is_done (refused n) = false
 
   by_answer : in_i16 (b.delete_times +ℤ k) ≡ is_done (times_of b k)
   unfolding is_done
@@ -183,11 +183,11 @@ module _ (b : Status) (k : ℤ) where
       go true e = e ∙ sym (ap is_done (times_by true e))
       go false e = e ∙ sym (ap is_done (times_by false e))
 
-  pub times_yes : (s : Status) → Answer.Done s ≡ times_of b k → true ≡ in_i16 (b.delete_times +ℤ k)
+  pub times_yes : (s : Status) → Ok s ≡ times_of b k → true ≡ in_i16 (b.delete_times +ℤ k)
   unfolding is_done
   times_yes s e = ap is_done e ∙ sym by_answer
 
-  pub times_no : (n : ℕ) → Answer.Refused n ≡ times_of b k → false ≡ in_i16 (b.delete_times +ℤ k)
+  pub times_no : (n : ℕ) → refused n ≡ times_of b k → false ≡ in_i16 (b.delete_times +ℤ k)
   unfolding is_done
   times_no n e = ap is_done e ∙ sym by_answer
 

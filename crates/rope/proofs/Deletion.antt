@@ -21,8 +21,9 @@ use Rattle.store.specs.Row.{rows}
 use Rattle.store.proofs.Laws.{length-rows}
 use Rattle.rope.specs.declared.change.Delete.{Delete}
 use Rattle.rope.specs.declared.change.Change.TheVariants as Ch
-use Rattle.rope.specs.declared.delete.DeleteAnswer.{DeleteAnswer}
-use Rattle.rope.specs.declared.delete.DeleteAnswer.TheVariants.{Done, Refused}
+use Rattle.rope.specs.Maybe.{DeleteAnswer}
+use Rattle.std.specs.Prelude.{Ok as Done}
+use Rattle.span.specs.Refusal.{refused as Refused}
 use Rattle.units.specs.Limits.{fits}
 use Rattle.units.specs.Place.{front, behind, shown}
 use Rattle.units.specs.Store.{count, room, spans_of, well_formed, is_state}

@@ -17,12 +17,12 @@ use Rattle.span.specs.Span.{len_span, active_len, diff_of}
 use Rattle.span.specs.Units.{expand}
 use Rattle.store.specs.Row.{rows, row_at}
 use Rattle.store.proofs.Laws.{length-rows}
-use Rattle.rope.specs.declared.diff.Change.{Change}
-use Rattle.rope.specs.declared.diff.Change.TheVariants.{Same, Is}
+use Rattle.rope.specs.Maybe.{Change}
+use Rattle.std.specs.Prelude.{None as Same, Some as Is}
 use Rattle.rope.specs.declared.diff.Step.{Step}
 use Rattle.rope.specs.declared.diff.Step.TheVariants.{End, Next}
 use Rattle.units.specs.Lists.{every}
-use Rattle.units.specs.declared.diff.OptLamport.TheVariants.{Nothing, At}
+use Rattle.std.specs.Prelude.{None as Nothing, Some as At}
 use Rattle.units.specs.declared.diff.Entry.{Entry}
 use Rattle.units.specs.declared.diff.Entry.TheVariants.{Retain, Delete}
 use Rattle.units.specs.Delta.{lamport_of, insert_of_span, real_if_created, insertable, retain, entry_by, entries_from, entries}

@@ -10,8 +10,9 @@ use lib.Seq.{length-take-le}
 use borrow.Author.Tests.{eqb-true, eqb-false}
 use Rattle.words.specs.Le.{bytes_of, put}
 use Rattle.span.specs.declared.span.FugueSpan.{FugueSpan}
-use Rattle.span.specs.declared.span.SpanAnswer.{SpanAnswer}
-use Rattle.span.specs.declared.span.SpanAnswer.TheVariants.{Done, Refused}
+use Rattle.span.specs.Maybe.{SpanAnswer}
+use Rattle.std.specs.Prelude.{Ok as Done}
+use Rattle.span.specs.Refusal.{refused as Refused}
 use Rattle.span.specs.Answer.{answer}
 use Rattle.span.specs.Span.{span_code}
 use Rattle.span.specs.Units.{expand, join}

@@ -14,8 +14,9 @@ use Rattle.words.proofs.Puts.{put-put, put-nil}
 use Rattle.span.proofs.AnswerLaws.{is_done, is_refused}
 use Rattle.store.specs.Row.{rows}
 use Rattle.rope.specs.declared.diff.EntryNumbers.{EntryNumbers}
-use Rattle.rope.specs.declared.diff.DiffAnswer.{DiffAnswer}
-use Rattle.rope.specs.declared.diff.DiffAnswer.TheVariants as Diff
+use Rattle.rope.specs.Maybe.{DiffAnswer}
+use Rattle.std.specs.Prelude.{Ok}
+use Rattle.span.specs.Refusal.{refused}
 use Rattle.units.specs.Lists.{every, over}
 use Rattle.units.specs.Store.{count, spans_of, is_state}
 use Rattle.span.specs.declared.span.FugueSpan.{FugueSpan}
@@ -156,10 +157,10 @@ module _ (code : ℕ) (spans : List FugueSpan) (k a b p c l : List ℕ) where
   as_was : (n : ℕ) → code ≡ n → (n ≡ 0 → ⊥) → (x y : List ℕ) → x ≡ kept code y x
   as_was n e z x y = sym (ap (λ (t : Bool). cond t y x) (ne_eqb code 0 (λ q. z (sym e ∙ q))))
 
-  pub diffed_refused : (n : ℕ) → code ≡ n → (n ≡ 0 → ⊥) → Diffed code spans (Diff.Refused n) k a b p c l k a b p c l
+  pub diffed_refused : (n : ℕ) → code ≡ n → (n ≡ 0 → ⊥) → Diffed code spans (refused n) k a b p c l k a b p c l
   diffed_refused n e z =
       record {
-        said = is_refused Diff.Done Diff.Refused code n (length (entries spans)) z (sym e);
+        said = is_refused Ok refused code n (length (entries spans)) z (sym e);
         kind = as_was n e z k _;
         first = as_was n e z a _;
         second = as_was n e z b _;
@@ -171,10 +172,10 @@ module _ (code : ℕ) (spans : List FugueSpan) (k a b p c l : List ℕ) where
   as_new : code ≡ 0 → (x y z : List ℕ) → x ≡ y → x ≡ kept code y z
   as_new e x y z q = q ∙ sym (ap (λ (t : Bool). cond t y z) (eq-eqb code 0 e))
 
-  pub diffed_done : code ≡ 0 → (n : ℕ) → n ≡ length (entries spans) → (k2 a2 b2 p2 c2 l2 : List ℕ) → Filled (entries spans) k a b p c l k2 a2 b2 p2 c2 l2 → Diffed code spans (Diff.Done n) k a b p c l k2 a2 b2 p2 c2 l2
+  pub diffed_done : code ≡ 0 → (n : ℕ) → n ≡ length (entries spans) → (k2 a2 b2 p2 c2 l2 : List ℕ) → Filled (entries spans) k a b p c l k2 a2 b2 p2 c2 l2 → Diffed code spans (Ok n) k a b p c l k2 a2 b2 p2 c2 l2
   diffed_done e n q k2 a2 b2 p2 c2 l2 w =
       record {
-        said = is_done Diff.Done Diff.Refused code e q;
+        said = is_done Ok refused code e q;
         kind = as_new e k2 _ k w.kind;
         first = as_new e a2 _ a w.first;
         second = as_new e b2 _ b w.second;

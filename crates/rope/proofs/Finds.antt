@@ -9,8 +9,8 @@ use Rattle.span.specs.declared.span.FugueSpan.{FugueSpan}
 use Rattle.span.specs.Span.{span_code}
 use Rattle.span.specs.Units.{units_of, expand}
 use Rattle.store.specs.Row.{rows, row_at}
-use Rattle.rope.specs.declared.find.Offset.{Offset}
-use Rattle.rope.specs.declared.find.Offset.TheVariants as Off
+use Rattle.rope.specs.Maybe.{Offset}
+use Rattle.std.specs.Prelude.{Some, None}
 use Rattle.rope.specs.declared.find.Found.{Found}
 use Rattle.rope.specs.declared.find.Found.TheVariants as Fd
 use Rattle.units.specs.Place.{mem_id}
@@ -49,5 +49,5 @@ found_has [] o i ok = refl
 found_has (s ∷ l) o i ok = go (offset_of s o) refl (found_has l o (i + 1) ok.1) ∙ sym (mem_span s l o ok.0)
   where
     go : (f : Offset) → offset_of s o ≡ f → is_found (find_in l o (i + 1)) ≡ mem_id o (expand l) → is_found (find_by f i (find_in l o (i + 1))) ≡ (covered s o || mem_id o (expand l))
-    go (Off.At k) e rec = sym (ap (λ (g : Offset). is_at g || mem_id o (expand l)) e)
-    go Off.Nothing e rec = rec ∙ sym (ap (λ (g : Offset). is_at g || mem_id o (expand l)) e)
+    go (Some k) e rec = sym (ap (λ (g : Offset). is_at g || mem_id o (expand l)) e)
+    go None e rec = rec ∙ sym (ap (λ (g : Offset). is_at g || mem_id o (expand l)) e)

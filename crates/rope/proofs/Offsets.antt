@@ -12,7 +12,7 @@ use Rattle.span.specs.declared.ids.Id.{Id}
 use Rattle.span.specs.Maybe.{OptId}
 use Rattle.std.specs.Prelude.{None as Nothing, Some as At}
 use Rattle.span.specs.declared.span.FugueSpan.{FugueSpan}
-use Rattle.span.specs.declared.status.Counter.TheVariants as C
+use Rattle.std.specs.Prelude.{Some, None}
 use Rattle.span.specs.Status.{counter_of, eq_z}
 use Rattle.span.specs.Ids.{inc_id, same_id, same_opt, room_of}
 use Rattle.span.proofs.IdsLaws.{Room, roomy, inc_zero}
@@ -20,15 +20,14 @@ use Rattle.span.proofs.Same.{same_opt-true, same_opt_refl, same_id_refl}
 use Rattle.span.specs.Span.{len_span, span_code, shift, left_of, part_span}
 use Rattle.span.proofs.SpanLaws.{SpanOk, span_ok}
 use Rattle.span.specs.Units.{tab, unit_at, units_of}
-use Rattle.rope.specs.declared.find.Offset.{Offset}
-use Rattle.rope.specs.declared.find.Offset.TheVariants as Off
+use Rattle.rope.specs.Maybe.{Offset}
 use Rattle.units.specs.Place.{mem_id, has_ol, pos_of}
 use Rattle.rope.specs.Spans.{gap, offset_of, is_at, covered}
 
 -- ---- by the code's tests
 
 module _ (s : FugueSpan) (o : OptId) (i : Id) (is : o ≡ At i) where
-  pub off_other : (s.id.peer ≡ i.peer → ⊥) → Off.Nothing ≡ offset_of s o
+  pub off_other : (s.id.peer ≡ i.peer → ⊥) → None ≡ offset_of s o
   unfolding offset_of
   off_other n = rw (is, ne_eqb s.id.peer i.peer n)
 
@@ -36,30 +35,30 @@ module _ (s : FugueSpan) (o : OptId) (i : Id) (is : o ≡ At i) where
   unfolding offset_of
   off_peer e = rw (is, eq-eqb s.id.peer i.peer e)
 
-pub gap_neg : (y z : ℤ) (n : ℕ) → C.Negative ≡ counter_of y → Off.Nothing ≡ gap y z n
+pub gap_neg : (y z : ℤ) (n : ℕ) → None ≡ counter_of y → None ≡ gap y z n
 unfolding gap
 gap_neg (pos k) z n e = let q : ◌≡◌ {A = ℕ} 0 1 = cc in absurd (omega arith)
 gap_neg (negsuc k) z n e = refl
 
-pub gap_neg2 : (y z : ℤ) (n : ℕ) → C.Negative ≡ counter_of z → Off.Nothing ≡ gap y z n
+pub gap_neg2 : (y z : ℤ) (n : ℕ) → None ≡ counter_of z → None ≡ gap y z n
 unfolding gap
 gap_neg2 y (pos k) n e = let q : ◌≡◌ {A = ℕ} 0 1 = cc in absurd (omega arith)
 gap_neg2 (pos a) (negsuc k) n e = refl
 gap_neg2 (negsuc a) (negsuc k) n e = refl
 
-pub gap_by : (y z : ℤ) (a b n : ℕ) → C.At a ≡ counter_of y → C.At b ≡ counter_of z → cond (leb a b && ltb (b - a) n) (Off.At (b - a)) Off.Nothing ≡ gap y z n
+pub gap_by : (y z : ℤ) (a b n : ℕ) → Some a ≡ counter_of y → Some b ≡ counter_of z → cond (leb a b && ltb (b - a) n) (Some (b - a)) None ≡ gap y z n
 unfolding gap
 gap_by (pos k) (pos l) a b n e f = let q : a ≡ k = cc in let r : b ≡ l = cc in rw (q, r)
 gap_by (pos k) (negsuc l) a b n e f = let q : ◌≡◌ {A = ℕ} 0 1 = cc in absurd (omega arith)
 gap_by (negsuc k) z a b n e f = let q : ◌≡◌ {A = ℕ} 0 1 = cc in absurd (omega arith)
 
-pub gap_yes : (a b n : ℕ) → a ≤ b → b - a < n → Off.At (b - a) ≡ cond (leb a b && ltb (b - a) n) (Off.At (b - a)) Off.Nothing
+pub gap_yes : (a b n : ℕ) → a ≤ b → b - a < n → Some (b - a) ≡ cond (leb a b && ltb (b - a) n) (Some (b - a)) None
 gap_yes a b n h k = rw (le-leb a b h, lt-ltb (b - a) n k)
 
-pub gap_past : (a b n : ℕ) → a ≤ b → n ≤ b - a → Off.Nothing ≡ cond (leb a b && ltb (b - a) n) (Off.At (b - a)) Off.Nothing
+pub gap_past : (a b n : ℕ) → a ≤ b → n ≤ b - a → None ≡ cond (leb a b && ltb (b - a) n) (Some (b - a)) None
 gap_past a b n h k = rw (le-leb a b h, le-ltb (b - a) n k)
 
-pub gap_less : (a b n : ℕ) → b < a → Off.Nothing ≡ cond (leb a b && ltb (b - a) n) (Off.At (b - a)) Off.Nothing
+pub gap_less : (a b n : ℕ) → b < a → None ≡ cond (leb a b && ltb (b - a) n) (Some (b - a)) None
 gap_less a b n h = rw (lt-leb a b h)
 
 -- ---- what it says of the units
@@ -95,27 +94,27 @@ module _ (s : FugueSpan) (ok : span_code s ≡ 0) where
   own = (span_ok s ok).own
 
   -- the place of a unit's id
-  pub off_unit : (k : ℕ) → k < len_span s → offset_of s (At (inc_id s.id k)) ≡ Off.At k
+  pub off_unit : (k : ℕ) → k < len_span s → offset_of s (At (inc_id s.id k)) ≡ Some k
   unfolding offset_of inc_id gap
   off_unit k h = let w = roomy s.id.counter (len_span s) own in go w.at w.is
     where
-      go : (c : ℕ) → s.id.counter ≡ pos c → cond (eqb s.id.peer s.id.peer) (gap s.id.counter (s.id.counter +ℤ pos k) (len_span s)) Off.Nothing ≡ Off.At k
+      go : (c : ℕ) → s.id.counter ≡ pos c → cond (eqb s.id.peer s.id.peer) (gap s.id.counter (s.id.counter +ℤ pos k) (len_span s)) None ≡ Some k
       go c e =
           let q : c + k - c ≡ k = omega arith in
           rw (e, eq-eqb s.id.peer s.id.peer refl, le-leb c (c + k) (omega arith), q, lt-ltb k (len_span s) h)
 
   -- and the id at a place
-  pub unit_off : (o : OptId) (k : ℕ) → offset_of s o ≡ Off.At k → (k < len_span s) × (o ≡ At (inc_id s.id k))
+  pub unit_off : (o : OptId) (k : ℕ) → offset_of s o ≡ Some k → (k < len_span s) × (o ≡ At (inc_id s.id k))
   unfolding offset_of inc_id gap
   unit_off Nothing k e = let q : ◌≡◌ {A = ℕ} 0 1 = cc in absurd (omega arith)
   unit_off (At i) k e = go (eqb s.id.peer i.peer) refl e
     where
-      at_gap : (y z : ℤ) (n : ℕ) → gap y z n ≡ Off.At k → (k < n) × (z ≡ y +ℤ pos k)
+      at_gap : (y z : ℤ) (n : ℕ) → gap y z n ≡ Some k → (k < n) × (z ≡ y +ℤ pos k)
       at_gap (pos a) (negsuc b) n f = let q : ◌≡◌ {A = ℕ} 0 1 = cc in absurd (omega arith)
       at_gap (negsuc a) z n f = let q : ◌≡◌ {A = ℕ} 0 1 = cc in absurd (omega arith)
       at_gap (pos a) (pos b) n f = in_gap (leb a b) (ltb (b - a) n) refl refl f
         where
-          in_gap : (t u : Bool) → leb a b ≡ t → ltb (b - a) n ≡ u → cond (t && u) (Off.At (b - a)) Off.Nothing ≡ Off.At k → (k < n) × (pos b ≡ pos (a + k))
+          in_gap : (t u : Bool) → leb a b ≡ t → ltb (b - a) n ≡ u → cond (t && u) (Some (b - a)) None ≡ Some k → (k < n) × (pos b ≡ pos (a + k))
           in_gap true true p q g =
               let r : b - a ≡ k = cc in
               let l = leb-true a b p in
@@ -124,7 +123,7 @@ module _ (s : FugueSpan) (ok : span_code s ≡ 0) where
           in_gap true false p q g = let r : ◌≡◌ {A = ℕ} 0 1 = cc in absurd (omega arith)
           in_gap false u p q g = let r : ◌≡◌ {A = ℕ} 0 1 = cc in absurd (omega arith)
 
-      go : (t : Bool) → eqb s.id.peer i.peer ≡ t → cond t (gap s.id.counter i.counter (len_span s)) Off.Nothing ≡ Off.At k → (k < len_span s) × (At i ≡ At (record { peer = s.id.peer; counter = s.id.counter +ℤ pos k }))
+      go : (t : Bool) → eqb s.id.peer i.peer ≡ t → cond t (gap s.id.counter i.counter (len_span s)) None ≡ Some k → (k < len_span s) × (At i ≡ At (record { peer = s.id.peer; counter = s.id.counter +ℤ pos k }))
       go true p f =
           let g = at_gap s.id.counter i.counter (len_span s) f in
           (g.0, ap₂ (λ (x : ℕ) (y : ℤ). At (record { peer = x; counter = y })) (sym (eqb-true _ _ p)) g.1)
@@ -132,7 +131,7 @@ module _ (s : FugueSpan) (ok : span_code s ≡ 0) where
 
   -- ---- the units from j on
 
-  pub tab_not : (o : OptId) (j n : ℕ) → j + n ≤ len_span s → offset_of s o ≡ Off.Nothing → mem_id o (tab (unit_at s) j n) ≡ false
+  pub tab_not : (o : OptId) (j n : ℕ) → j + n ≤ len_span s → offset_of s o ≡ None → mem_id o (tab (unit_at s) j n) ≡ false
   unfolding tab mem_id
   tab_not o j zero h e = refl
   tab_not o j (suc n) h e = rw (unit_id s j, differs (same_opt o (At (inc_id s.id j))) refl) (tab_not o (suc j) n (omega arith) e)
@@ -140,7 +139,7 @@ module _ (s : FugueSpan) (ok : span_code s ≡ 0) where
       differs : (t : Bool) → same_opt o (At (inc_id s.id j)) ≡ t → same_opt o (At (inc_id s.id j)) ≡ false
       differs false p = p
       differs true p =
-          let q : offset_of s o ≡ Off.At j = ap (offset_of s) (at_unit s o j p) ∙ off_unit j (omega arith) in
+          let q : offset_of s o ≡ Some j = ap (offset_of s) (at_unit s o j p) ∙ off_unit j (omega arith) in
           let r : ◌≡◌ {A = ℕ} 0 1 = cc in absurd (omega arith)
 
   pub tab_has : (j n d : ℕ) → d < n → mem_id (At (inc_id s.id (j + d))) (tab (unit_at s) j n) ≡ true
@@ -177,13 +176,13 @@ module _ (s : FugueSpan) (ok : span_code s ≡ 0) where
   covers_units o = go (offset_of s o) refl
     where
       go : (f : Offset) → offset_of s o ≡ f → mem_id o (tab (unit_at s) 0 (len_span s)) ≡ is_at (offset_of s o)
-      go Off.Nothing e = rw e (tab_not o 0 (len_span s) (omega arith) e)
-      go (Off.At k) e =
+      go None e = rw e (tab_not o 0 (len_span s) (omega arith) e)
+      go (Some k) e =
           let w = unit_off o k e in
           let h : k < len_span s = w.0 in
           let q : 0 + k ≡ k = omega arith in
           rw (e, w.1) (ap (λ (m : ℕ). mem_id (At (inc_id s.id m)) (tab (unit_at s) 0 (len_span s))) (sym q) ∙ tab_has 0 (len_span s) k h)
 
-  pub not_unit : (o : OptId) → offset_of s o ≡ Off.Nothing → mem_id o (units_of s) ≡ false
+  pub not_unit : (o : OptId) → offset_of s o ≡ None → mem_id o (units_of s) ≡ false
   unfolding units_of
   not_unit o e = tab_not o 0 (len_span s) (omega arith) e

@@ -13,8 +13,8 @@ use borrow.Author.Tests.{lt-ltb, le-ltb, le-leb, lt-leb, leb-true, ltb-true, eq-
 use Rattle.span.specs.declared.ids.Id.{Id}
 use Rattle.span.specs.Maybe.{OptId}
 use Rattle.std.specs.Prelude.{Some as At}
-use Rattle.span.specs.declared.status.Counter.{Counter}
-use Rattle.span.specs.declared.status.Counter.TheVariants as Counter
+use Rattle.span.specs.Maybe.{Counter}
+use Rattle.std.specs.Prelude.{Some, None}
 use Rattle.span.specs.declared.span.FugueSpan.{FugueSpan}
 use Rattle.span.specs.Ids.{id, same_opt}
 use Rattle.span.specs.Status.{eq_z, counter_of}
@@ -197,13 +197,13 @@ differs k z n e h = ap (eq_z (pos k)) e ∙ ne_eqb k n (λ q. omega (arith, q, h
 width_down : (m n : ℕ) → n < m → (negsuc n -ℤ negsuc m) ≡ pos (m - n)
 width_down m n h = ap (λ (t : Bool). cond t (negsuc (suc n - suc (suc m))) (pos (suc m - suc n))) (le-ltb (suc m) (suc n) (omega arith)) ∙ ap pos (let q : suc m - suc n ≡ m - n = omega arith in q)
 
-pub below_zero : (p : ℕ) (a b : ℤ) (l : List FugueSpan) → Counter.Negative ≡ counter_of a → le_z b a ≡ false → AllUnits l → Distinct l → holds_all p a b l ≡ false
+pub below_zero : (p : ℕ) (a b : ℤ) (l : List FugueSpan) → None ≡ counter_of a → le_z b a ≡ false → AllUnits l → Distinct l → holds_all p a b l ≡ false
 unfolding holds_all
 below_zero p (pos a) b l n h each d = absurd (true≢false (ap neg n))
   where
     neg : Counter → Bool
-    neg Counter.Negative = true
-    neg (Counter.At k) = false
+    neg None = true
+    neg (Some k) = false
 below_zero p (negsuc m) (pos b) l n h each d =
     let k = few_in p b l d in
     let e : many (in_range p (negsuc m) (pos b)) l ≡ many (in_range p (pos 0) (pos b)) l = natural_many p m (pos b) l each in

@@ -17,7 +17,7 @@ use Rattle.span.specs.Status.{activated}
 use Rattle.span.specs.Span.{len_span, span_code}
 use Rattle.span.specs.Units.{expand, join}
 use Rattle.span.proofs.Unique.{AllUnits, join-expand}
-use Rattle.rope.specs.declared.delete.DeleteAnswer.{DeleteAnswer}
+use Rattle.rope.specs.Maybe.{DeleteAnswer}
 use Rattle.units.specs.Limits.{fits}
 use Rattle.units.specs.Place.{front, behind}
 use Rattle.units.specs.Store.{count, room, spans_of, well_formed, is_state}

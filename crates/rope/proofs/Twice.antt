@@ -16,8 +16,8 @@ use Rattle.span.proofs.SpanLaws.{span_ok}
 use Rattle.span.specs.Units.{tab, unit_at, units_of, expand}
 use Rattle.span.proofs.ForRope.{expand-append}
 use Rattle.store.specs.Row.{rows, row_at}
-use Rattle.rope.specs.declared.find.Offset.{Offset}
-use Rattle.rope.specs.declared.find.Offset.TheVariants as Off
+use Rattle.rope.specs.Maybe.{Offset}
+use Rattle.std.specs.Prelude.{Some, None}
 use Rattle.units.specs.Place.{mem_id, Distinct}
 use Rattle.units.specs.Store.{distinct_ids}
 use Rattle.rope.specs.Spans.{offset_of, AllOk, Fresh, holds_any, apart_rows}
@@ -79,8 +79,8 @@ module _ (s : FugueSpan) (ok : span_code s ≡ 0) where
   disjoint us new o m = pick (offset_of s o) refl
     where
       pick : (f : Offset) → offset_of s o ≡ f → mem_id o (units_of s) ≡ false
-      pick Off.Nothing e = not_unit s ok o e
-      pick (Off.At k) e = absurd (let w = unit_off s ok o k e in true≢false (sym m ∙ (ap (λ (r : OptId). mem_id r us) w.1 ∙ new k w.0)))
+      pick None e = not_unit s ok o e
+      pick (Some k) e = absurd (let w = unit_off s ok o k e in true≢false (sym m ∙ (ap (λ (r : OptId). mem_id r us) w.1 ∙ new k w.0)))
 
 ok_snoc : (S : List FugueSpan) (v : FugueSpan) → AllOk S → span_code v ≡ 0 → AllOk (S ++ (v ∷ []))
 unfolding AllOk

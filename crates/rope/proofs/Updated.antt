@@ -11,8 +11,8 @@ use lib.ListN.{length, drop}
 use lib.Signed.{le_z, lt_z}
 use borrow.Author.Tests.{le-leb, lt-leb, leb-true, le-ltb}
 use Rattle.words.specs.Le.{bytes_of, put}
-use Rattle.span.specs.declared.status.Counter.{Counter}
-use Rattle.span.specs.declared.status.Counter.TheVariants as Counter
+use Rattle.span.specs.Maybe.{Counter}
+use Rattle.std.specs.Prelude.{Some, None}
 use Rattle.span.specs.declared.span.FugueSpan.{FugueSpan}
 use Rattle.span.specs.Status.{counter_of}
 use Rattle.span.specs.Units.{expand, join}
@@ -171,17 +171,17 @@ module _ (s : List ℕ) (u : Update) (st : is_state s ≡ true) (some : u.from <
 -- ---- update
 
 -- a counter above one that is not below zero is not either
-counter_at : (a : ℤ) (x : ℕ) → Counter.At x ≡ counter_of a → a ≡ pos x
+counter_at : (a : ℤ) (x : ℕ) → Some x ≡ counter_of a → a ≡ pos x
 counter_at (pos n) x e = ap pos (sym (ap value e))
   where
     value : Counter → ℕ
-    value Counter.Negative = 0
-    value (Counter.At k) = k
+    value None = 0
+    value (Some k) = k
 counter_at (negsuc n) x e = absurd (true≢false (ap at e))
   where
     at : Counter → Bool
-    at Counter.Negative = false
-    at (Counter.At k) = true
+    at None = false
+    at (Some k) = true
 
 past_at : (b : ℤ) (x : ℕ) → le_z b (pos x) ≡ false → (pos (nat_abs b) ≡ b) × (x < nat_abs b)
 past_at (pos y) x h = (refl, go (lt-or x y))
@@ -220,12 +220,12 @@ module _ (s : List ℕ) (p : ℕ) (a b : ℤ) (f : SetFuture) (k : ℤ) (diff : 
         (record { written = record { list = sym same; head = refl }; past = refl })
 
     module _ (h : le_z b a ≡ false) where
-      pub update_below : Counter.Negative ≡ counter_of a → EditedIn number left 6 s s
+      pub update_below : None ≡ counter_of a → EditedIn number left 6 s s
       update_below n =
           let e = below_zero p a b (expand (spans_of s)) n h (units_ok (spans_of s) formed).each (formed_of (spans_of s) formed).distinct in
           refused_in number left 6 s (sym (code_held (room s) (spans_of s) p a b f k diff formed h e) ∙ number_state st) (λ z. omega (arith, z))
 
-      module _ (x : ℕ) (e : Counter.At x ≡ counter_of a) where
+      module _ (x : ℕ) (e : Some x ≡ counter_of a) where
         ends : (pos (nat_abs b) ≡ b) × (x < nat_abs b)
         ends = past_at b x (ap (le_z b) (sym (counter_at a x e)) ∙ h)
 

@@ -9,17 +9,18 @@ use Rattle.span.specs.Answer.{answer}
 use Rattle.span.specs.Span.{len_span, diff_of}
 use Rattle.span.specs.Units.{expand}
 use Rattle.store.specs.Row.{rows, bits32}
-use Rattle.rope.specs.declared.diff.Change.{Change}
-use Rattle.rope.specs.declared.diff.Change.TheVariants.{Same, Is}
+use Rattle.rope.specs.Maybe.{Change}
+use Rattle.std.specs.Prelude.{None as Same, Some as Is}
 use Rattle.rope.specs.declared.diff.Step.{Step}
 use Rattle.rope.specs.declared.diff.Step.TheVariants.{End, Next}
 use Rattle.rope.specs.declared.diff.EntryNumbers.{EntryNumbers}
-use Rattle.rope.specs.declared.diff.DiffAnswer.{DiffAnswer}
-use Rattle.rope.specs.declared.diff.DiffAnswer.TheVariants as Diff
+use Rattle.rope.specs.Maybe.{DiffAnswer}
+use Rattle.std.specs.Prelude.{Ok}
+use Rattle.span.specs.Refusal.{refused}
 use Rattle.units.specs.Lists.{every, over}
 use Rattle.units.specs.Store.{spans_of, is_state}
-use Rattle.units.specs.declared.diff.OptLamport.{OptLamport}
-use Rattle.units.specs.declared.diff.OptLamport.TheVariants.{Nothing, At}
+use Rattle.units.specs.Maybe.{OptLamport}
+use Rattle.std.specs.Prelude.{None as Nothing, Some as At}
 use Rattle.units.specs.declared.diff.Entry.{Entry}
 use Rattle.units.specs.declared.diff.Entry.TheVariants.{Retain, Delete, Insert}
 use Rattle.units.specs.Delta.{insert_of_span, insertable, entries_from, entries}
@@ -120,7 +121,7 @@ column_of code f es col = kept code (over (column f es) col) col
 
 -- what get_diff answers, and the columns afterwards: those of the entries, or if it is refused what they were
 pub record Diffed (code : ℕ) (spans : List FugueSpan) (r : DiffAnswer) (k a b p c l k2 a2 b2 p2 c2 l2 : List ℕ) : Type 0 where
-  pub said : r ≡ answer Diff.Done Diff.Refused code (length (entries spans))
+  pub said : r ≡ answer Ok refused code (length (entries spans))
   pub kind : k2 ≡ column_of code (λ (x : EntryNumbers). x.kind) (entries spans) k
   pub first : a2 ≡ column_of code (λ (x : EntryNumbers). x.a) (entries spans) a
   pub second : b2 ≡ column_of code (λ (x : EntryNumbers). x.b) (entries spans) b
@@ -130,5 +131,5 @@ pub record Diffed (code : ℕ) (spans : List FugueSpan) (r : DiffAnswer) (k a b 
 
 -- 01's number of an answer: 0 is done
 abbrev pub diff_number : DiffAnswer → ℕ
-diff_number (Diff.Done n) = 0
-diff_number (Diff.Refused k) = k
+diff_number (Ok n) = 0
+diff_number (refused k) = k

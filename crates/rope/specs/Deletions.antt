@@ -8,8 +8,9 @@ use Rattle.span.specs.Ids.{room_opt}
 use Rattle.span.specs.Units.{expand, join}
 use Rattle.store.specs.Row.{rows}
 use Rattle.rope.specs.declared.change.Delete.{Delete}
-use Rattle.rope.specs.declared.delete.DeleteAnswer.{DeleteAnswer}
-use Rattle.rope.specs.declared.delete.DeleteAnswer.TheVariants.{Done, Refused}
+use Rattle.rope.specs.Maybe.{DeleteAnswer}
+use Rattle.std.specs.Prelude.{Ok as Done}
+use Rattle.span.specs.Refusal.{refused as Refused}
 use Rattle.units.specs.Limits.{fits}
 use Rattle.units.specs.Place.{shown}
 use Rattle.units.specs.Store.{room, spans_of, is_state}

@@ -5,8 +5,9 @@ use Rattle.span.specs.Answer.{answer}
 use Rattle.span.specs.Units.{expand}
 use Rattle.store.specs.Row.{row_bytes}
 use Rattle.store.specs.Header.{header_bytes}
-use Rattle.rope.specs.declared.query.LenAnswer.{LenAnswer}
-use Rattle.rope.specs.declared.query.LenAnswer.TheVariants as Len
+use Rattle.rope.specs.Maybe.{LenAnswer}
+use Rattle.std.specs.Prelude.{Ok}
+use Rattle.span.specs.Refusal.{refused}
 use Rattle.rope.specs.declared.query.RealAnswer.{RealAnswer}
 use Rattle.rope.specs.declared.query.RealAnswer.TheVariants as Real
 use Rattle.units.specs.Place.{shown}
@@ -34,7 +35,7 @@ open_with_bytes n s = kept (open_with_code n s) (put 72 (row_bytes (placeholder 
 
 -- the visible length
 unfoldable pub len_answer : List ℕ → LenAnswer
-len_answer s = answer Len.Done Len.Refused (state_code s) (shown (expand (spans_of s)))
+len_answer s = answer Ok refused (state_code s) (shown (expand (spans_of s)))
 
 -- active_real_span_at
 abbrev pub real_said : RealSpan → RealAnswer
@@ -46,8 +47,8 @@ real_answer s at = answer real_said Real.Refused (state_code s) (real_span_at (s
 
 -- 01's number of an answer: 0 is done
 abbrev pub len_number : LenAnswer → ℕ
-len_number (Len.Done n) = 0
-len_number (Len.Refused k) = k
+len_number (Ok n) = 0
+len_number (refused k) = k
 
 abbrev pub real_number : RealAnswer → ℕ
 real_number Real.Nothing = 0

@@ -7,7 +7,7 @@ ghost use Rattle.rope.specs.Pieces.{delete_cut, delete_after, CanDelete, part_at
 
 use span::ids::Id;
 use span::span::FugueSpan;
-use span::status::{Counter, Status, StatusAnswer, counter_of};
+use span::status::{Status, counter_of};
 use units::change::SetFuture;
 
 // The delete of `len` visible units after `at` visible ones. The first of them is offered the real id `start`.
@@ -147,8 +147,8 @@ impl Update {
     {
         if row.id.peer == self.peer {
             match counter_of(row.id.counter) {
-                Counter::Negative => Part { from: 0, to: 0 },
-                Counter::At(c) => self.part_at(c, row.rle_len()),
+                None => Part { from: 0, to: 0 },
+                Some(c) => self.part_at(c, row.rle_len()),
             }
         } else {
             Part { from: 0, to: 0 }
@@ -185,11 +185,11 @@ impl Update {
     {
         let set = self.set;
         match base.changed(self.change) {
-            StatusAnswer::Done(s) => Status {
+            Ok(s) => Status {
                 future: set.apply(s.future),
                 delete_times: s.delete_times,
             },
-            StatusAnswer::Refused(_) => base,
+            Err(_) => base,
         }
     }
 

@@ -36,13 +36,6 @@ pub fn delete_rows(s: &mut [u8], n: usize, at: u32, len: u32, start: Id) -> usiz
     )
 }
 
-// The number of removed pieces, or the number of the refusal.
-#[derive(Clone, Copy)]
-pub enum DeleteAnswer {
-    Done(usize),
-    Refused(u8),
-}
-
 // What refuses the delete of some units in a well formed list: `most` is the room for rows, `places` that of the output.
 pub fn refuse_delete(
     s: &[u8],
@@ -91,14 +84,14 @@ pub fn delete(
     len: u32,
     start: Id,
     reversed: bool,
-) -> DeleteAnswer
+) -> Result<usize, Refusal>
     ensures { Deleted (delete_number s.old out.old pos len start reversed) (delete_list s.old pos len start) (pieces (spans_of s.old) pos len reversed) result s.old out.old s.new out.new }
 {
     if !check(s) {
-        return DeleteAnswer::Refused(15);
+        return Err(15);
     }
     if len == 0 {
-        return DeleteAnswer::Done(0);
+        return Ok(0);
     }
     let d = Delete {
         at: pos,
@@ -109,7 +102,7 @@ pub fn delete(
 }
 
 // The same, of some units in a well formed store.
-pub fn delete_some(s: &mut [u8], out: &mut [u8], d: Delete, reversed: bool) -> DeleteAnswer
+pub fn delete_some(s: &mut [u8], out: &mut [u8], d: Delete, reversed: bool) -> Result<usize, Refusal>
     requires { (is_state s.old ≡ true) × (0 < d.len) }
     ensures { Deleted (delete_code (room s.old) (out_rows out.old) (spans_of s.old) d.at d.len d.start reversed) (delete_list s.old d.at d.len d.start) (pieces (spans_of s.old) d.at d.len reversed) result s.old out.old s.new out.new }
 {
@@ -117,9 +110,9 @@ pub fn delete_some(s: &mut [u8], out: &mut [u8], d: Delete, reversed: bool) -> D
     let most = header::room(s);
     let code = refuse_delete(&s[72..], n, d, most, out.len() / 72, reversed);
     if code != 0 {
-        return DeleteAnswer::Refused(code);
+        return Err(code);
     }
     let k = report(&s[72..], n, out, d, reversed);
     write_delete(s, n, d);
-    DeleteAnswer::Done(k)
+    Ok(k)
 }

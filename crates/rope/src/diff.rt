@@ -12,27 +12,13 @@ use span::chunk::RichtextChunk;
 use span::ids::{Id, UNKNOWN_PEER};
 use span::span::{DiffStatus, FugueSpan};
 use store::header;
-use units::diff::{Entry, OptLamport};
-
-// What a span does to the delta: nothing, or an entry.
-#[derive(Clone, Copy)]
-pub enum Change {
-    Same,
-    Is(Entry),
-}
+use units::diff::{Entry};
 
 // The next entry, with the row and the gap from which the rest goes on; or the end.
 #[derive(Clone, Copy)]
 pub enum Step {
     End,
     Next(Entry, usize, u32),
-}
-
-// How many entries there are, or the number of the refusal.
-#[derive(Clone, Copy)]
-pub enum DiffAnswer {
-    Done(usize),
-    Refused(u8),
 }
 
 // An entry as numbers, one for each column. The kind is 0 Retain, 1 Delete, 2 Insert, 3 Insert without lamport; a is the length or the chunk's
@@ -50,13 +36,13 @@ pub struct EntryNumbers {
 // ---- One span
 
 // The lamport of an Insert: none for the unknown peer.
-fn lamport_of(row: FugueSpan) -> OptLamport
+fn lamport_of(row: FugueSpan) -> Option<u32>
     ensures { result ≡ lamport_of row }
 {
     if row.id.peer == UNKNOWN_PEER {
-        OptLamport::Nothing
+        None
     } else {
-        OptLamport::At(row.lamport)
+        Some(row.lamport)
     }
 }
 
@@ -69,14 +55,14 @@ fn insert_of(row: FugueSpan) -> Entry
     Entry::Insert(content, real, lamport)
 }
 
-pub fn change_of(row: FugueSpan) -> Change
+pub fn change_of(row: FugueSpan) -> Option<Entry>
     ensures { result ≡ change_of row }
 {
     let diff = row.diff();
     match diff {
-        DiffStatus::NotChanged => Change::Same,
-        DiffStatus::Created => Change::Is(insert_of(row)),
-        DiffStatus::Deleted => Change::Is(Entry::Delete(row.rle_len())),
+        DiffStatus::NotChanged => None,
+        DiffStatus::Created => Some(insert_of(row)),
+        DiffStatus::Deleted => Some(Entry::Delete(row.rle_len())),
     }
 }
 
@@ -127,11 +113,11 @@ pub fn next_entry(s: &[u8], n: usize, from: usize, since: u32) -> Step
         let row = store::get_row(s, i);
         let change = change_of(row);
         match change {
-            Change::Same => {
+            None => {
                 gap += row.activated_len();
                 i += 1;
             }
-            Change::Is(entry) => {
+            Some(entry) => {
                 return gap_first(gap, i, entry);
             }
         }
@@ -204,12 +190,12 @@ pub fn numbers_of(entry: Entry) -> EntryNumbers
     }
 }
 
-fn insert_numbers(content: RichtextChunk, id: Id, lamport: OptLamport) -> EntryNumbers
+fn insert_numbers(content: RichtextChunk, id: Id, lamport: Option<u32>) -> EntryNumbers
     ensures { result ≡ insert_numbers content id lamport }
 {
     let bits = store::counter_bits(id);
     match lamport {
-        OptLamport::Nothing => EntryNumbers {
+        None => EntryNumbers {
             kind: 3,
             a: content.start,
             b: content.end,
@@ -217,7 +203,7 @@ fn insert_numbers(content: RichtextChunk, id: Id, lamport: OptLamport) -> EntryN
             counter: bits,
             lamport: 0,
         },
-        OptLamport::At(first) => EntryNumbers {
+        Some(first) => EntryNumbers {
             kind: 2,
             a: content.start,
             b: content.end,
@@ -316,12 +302,12 @@ pub fn diff_rows(
     peer: &mut [u64],
     counter: &mut [u32],
     lamport: &mut [u32],
-) -> DiffAnswer
+) -> Result<usize, Refusal>
     requires { Stored n s.now }
     ensures { Diffed (diff_rows_code (least (length kind.old) (length a.old) (length b.old) (length peer.old) (length counter.old) (length lamport.old)) (rows n s.now)) (rows n s.now) result kind.old a.old b.old peer.old counter.old lamport.old kind.new a.new b.new peer.new counter.new lamport.new }
 {
     if !all_real(s, n) {
-        return DiffAnswer::Refused(12);
+        return Err(12);
     }
     let many = count_entries(s, n);
     let room = shortest(
@@ -333,10 +319,10 @@ pub fn diff_rows(
         lamport.len(),
     );
     if room < many {
-        return DiffAnswer::Refused(13);
+        return Err(13);
     }
     write_entries(s, n, kind, a, b, peer, counter, lamport);
-    DiffAnswer::Done(many)
+    Ok(many)
 }
 
 // The delta of a store from its spans' status to their diff_status: its entries in the columns, and how many there are.
@@ -348,11 +334,11 @@ pub fn get_diff(
     peer: &mut [u64],
     counter: &mut [u32],
     lamport: &mut [u32],
-) -> DiffAnswer
+) -> Result<usize, Refusal>
     ensures { Diffed (get_diff_code (least (length kind.old) (length a.old) (length b.old) (length peer.old) (length counter.old) (length lamport.old)) s.now) (spans_of s.now) result kind.old a.old b.old peer.old counter.old lamport.old kind.new a.new b.new peer.new counter.new lamport.new }
 {
     if !check(s) {
-        return DiffAnswer::Refused(15);
+        return Err(15);
     }
     let n = header::count(s) as usize;
     diff_rows(&s[72..], n, kind, a, b, peer, counter, lamport)

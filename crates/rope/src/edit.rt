@@ -18,7 +18,7 @@ use crate::seek::visible;
 use crate::state::check;
 use span::chunk::RichtextChunk;
 use span::ids::{Id, UNKNOWN_PEER};
-use span::span::{FugueSpan, SpanAnswer};
+use span::span::{FugueSpan};
 use store::header;
 use store::limits::UNITS;
 
@@ -30,8 +30,8 @@ pub fn insert(s: &mut [u8], pos: u32, id: Id, lamport: u32, content: RichtextChu
         return 15;
     }
     match FugueSpan::new(id, lamport, content) {
-        SpanAnswer::Refused(code) => code,
-        SpanAnswer::Done(x) => insert_span(s, pos, x),
+        Err(code) => code,
+        Ok(x) => insert_span(s, pos, x),
     }
 }
 

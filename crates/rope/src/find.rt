@@ -6,41 +6,34 @@ ghost use Rattle.units.specs.Place.{mem_id};
 ghost use Rattle.rope.specs.Spans.{offset_of, covered, find_in, meets_span, holds_any, AllOk};
 
 use span::span::FugueSpan;
-use span::status::{Counter, counter_of};
+use span::status::{counter_of};
 
-// Where in a span an id stands.
-#[derive(Clone, Copy)]
-pub enum Offset {
-    At(u32),
-    Nothing,
-}
-
-pub fn offset_of(row: FugueSpan, o: Option<Id>) -> Offset
+pub fn offset_of(row: FugueSpan, o: Option<Id>) -> Option<u32>
     ensures { result ≡ offset_of row o }
 {
     match o {
-        None => Offset::Nothing,
+        None => None,
         Some(i) => {
             if row.id.peer == i.peer {
                 match counter_of(row.id.counter) {
-                    Counter::Negative => Offset::Nothing,
-                    Counter::At(a) => match counter_of(i.counter) {
-                        Counter::Negative => Offset::Nothing,
-                        Counter::At(b) => {
+                    None => None,
+                    Some(a) => match counter_of(i.counter) {
+                        None => None,
+                        Some(b) => {
                             if a <= b {
                                 if b - a < row.rle_len() {
-                                    Offset::At(b - a)
+                                    Some(b - a)
                                 } else {
-                                    Offset::Nothing
+                                    None
                                 }
                             } else {
-                                Offset::Nothing
+                                None
                             }
                         }
                     },
                 }
             } else {
-                Offset::Nothing
+                None
             }
         }
     }
@@ -50,8 +43,8 @@ pub fn covers(row: FugueSpan, o: Option<Id>) -> bool
     ensures { result ≡ covered row o }
 {
     match offset_of(row, o) {
-        Offset::Nothing => false,
-        Offset::At(_) => true,
+        None => false,
+        Some(_) => true,
     }
 }
 
@@ -70,8 +63,8 @@ pub fn find_elem(s: &[u8], n: usize, o: Option<Id>) -> Found
     let mut i = 0;
     while i < n {
         match offset_of(store::get_row(s, i), o) {
-            Offset::At(k) => return Found::At(i, k),
-            Offset::Nothing => {}
+            Some(k) => return Found::At(i, k),
+            None => {}
         }
         i += 1;
     }

@@ -6,7 +6,7 @@ ghost use Rattle.store.specs.Row.{rows};
 ghost use Rattle.units.specs.Place.{first_past, pr_pos, sibling, verdict};
 ghost use Rattle.rope.specs.Spans.{right_in, run_s, AllOk, Held, place_s};
 
-use crate::find::{Offset, covers, offset_of};
+use crate::find::{covers, offset_of};
 use span::span::FugueSpan;
 use units::place::{Verdict, by_pos};
 
@@ -24,8 +24,8 @@ pub fn right_in(row: FugueSpan, x: Option<Id>, o: Option<Id>) -> Right
     ensures { result ≡ right_in row x o }
 {
     match offset_of(row, o) {
-        Offset::Nothing => Right::Absent,
-        Offset::At(k) => {
+        None => Right::Absent,
+        Some(k) => {
             if row.left_at(k).same(x) {
                 Right::Here(k as usize)
             } else {

@@ -10,13 +10,6 @@ use crate::state::check;
 use span::ids::Id;
 use store::header;
 
-// The visible length, or the number of the refusal.
-#[derive(Clone, Copy)]
-pub enum LenAnswer {
-    Done(usize),
-    Refused(u8),
-}
-
 // A real id and the units left in its span, nothing from the visible length on, or the number of the refusal.
 #[derive(Clone, Copy)]
 pub enum RealAnswer {
@@ -25,14 +18,14 @@ pub enum RealAnswer {
     Refused(u8),
 }
 
-pub fn visible_len(s: &[u8]) -> LenAnswer
+pub fn visible_len(s: &[u8]) -> Result<usize, Refusal>
     ensures { result ≡ len_answer s.now }
 {
     if !check(s) {
-        return LenAnswer::Refused(15);
+        return Err(15);
     }
     let n = header::count(s) as usize;
-    LenAnswer::Done(visible(&s[72..], n))
+    Ok(visible(&s[72..], n))
 }
 
 // active_real_span_at of the rows.

@@ -19,7 +19,7 @@ use crate::edit::room_end;
 use crate::exact::rows_after;
 use crate::state::check;
 use span::span::FugueSpan;
-use span::status::{Counter, StatusAnswer, counter_of};
+use span::status::{counter_of};
 use store::header;
 use units::change::SetFuture;
 
@@ -37,8 +37,8 @@ pub fn base_fits(u: Update, row: FugueSpan) -> bool
     ensures { result ≡ in_i16 ((base_of u.diff row).delete_times +ℤ u.change) }
 {
     match u.base(row).changed(u.change) {
-        StatusAnswer::Done(_) => true,
-        StatusAnswer::Refused(_) => false,
+        Ok(_) => true,
+        Err(_) => false,
     }
 }
 
@@ -157,8 +157,8 @@ pub fn update(
         return 0;
     }
     match counter_of(from) {
-        Counter::Negative => 6,
-        Counter::At(a) => update_some(
+        None => 6,
+        Some(a) => update_some(
             s,
             Update {
                 peer: peer,

@@ -6,14 +6,16 @@ use Rattle.words.specs.Le.{put}
 use Rattle.span.specs.Answer.{answer}
 use Rattle.span.specs.declared.span.FugueSpan.{FugueSpan}
 use Rattle.rope.specs.declared.diff.EntryNumbers.{EntryNumbers}
-use Rattle.rope.specs.declared.diff.DiffAnswer.{DiffAnswer}
-use Rattle.rope.specs.declared.diff.DiffAnswer.TheVariants as Diff
+use Rattle.rope.specs.Maybe.{DiffAnswer}
+use Rattle.std.specs.Prelude.{Ok}
+use Rattle.span.specs.Refusal.{refused}
 use Rattle.units.specs.Store.{spans_of}
 use Rattle.units.specs.Delta.{entries}
 use Rattle.rope.specs.Columns.{Diffed}
 use Rattle.apply.specs.declared.item.Item.{Item}
-use Rattle.apply.specs.declared.delta.ApplyAnswer.{ApplyAnswer}
-use Rattle.apply.specs.declared.delta.ApplyAnswer.TheVariants.{Done, Refused}
+use Rattle.apply.specs.Maybe.{ApplyAnswer}
+use Rattle.std.specs.Prelude.{Ok as Done}
+use Rattle.span.specs.Refusal.{refused as Refused}
 use Rattle.apply.specs.Items.{items_in, items_bytes}
 use Rattle.apply.specs.Called.{Called, delta_items, delta_code, shown_items, shown_code, visible_code}
 use Rattle.apply.proofs.Tabs.{length_items}
@@ -98,24 +100,24 @@ module _ (first next j : ℕ) (new : List Item) (out : List ℕ) where
 
 -- ---- the delta's entries, cut out of its columns
 
-diff_done : (code m n : ℕ) → Diff.Done n ≡ answer Diff.Done Diff.Refused code m → (code ≡ 0) × (n ≡ m)
+diff_done : (code m n : ℕ) → Ok n ≡ answer Ok refused code m → (code ≡ 0) × (n ≡ m)
 unfolding answer
 diff_done code m n q = go (eqb code 0) refl q
   where
-    go : (t : Bool) → eqb code 0 ≡ t → Diff.Done n ≡ cond t (Diff.Done m) (Diff.Refused code) → (code ≡ 0) × (n ≡ m)
+    go : (t : Bool) → eqb code 0 ≡ t → Ok n ≡ cond t (Ok m) (refused code) → (code ≡ 0) × (n ≡ m)
     go true e q = (eqb-true code 0 e, cc)
     go false e q = absurd (let z : ◌≡◌ {A = ℕ} 0 1 = cc in omega arith)
 
-diff_refused : (code m j : ℕ) → Diff.Refused j ≡ answer Diff.Done Diff.Refused code m → (j ≡ code) × (j ≡ 0 → ⊥)
+diff_refused : (code m j : ℕ) → refused j ≡ answer Ok refused code m → (j ≡ code) × (j ≡ 0 → ⊥)
 unfolding answer
 diff_refused code m j q = go (eqb code 0) refl q
   where
-    go : (t : Bool) → eqb code 0 ≡ t → Diff.Refused j ≡ cond t (Diff.Done m) (Diff.Refused code) → (j ≡ code) × (j ≡ 0 → ⊥)
+    go : (t : Bool) → eqb code 0 ≡ t → refused j ≡ cond t (Ok m) (refused code) → (j ≡ code) × (j ≡ 0 → ⊥)
     go true e q = absurd (let z : ◌≡◌ {A = ℕ} 0 1 = cc in omega arith)
     go false e q = let h : j ≡ code = cc in (h, λ z. eqb-false code 0 e (sym h ∙ z))
 
 module _ (code : ℕ) (spans : List FugueSpan) (k a b p c l : List ℕ) {k2 a2 b2 p2 c2 l2 : List ℕ} {r : DiffAnswer} (d : Diffed code spans r k a b p c l k2 a2 b2 p2 c2 l2) where
-  pub new_done : (n : ℕ) (s out : List ℕ) {q : ApplyAnswer} {out' : List ℕ} → r ≡ Diff.Done n
+  pub new_done : (n : ℕ) (s out : List ℕ) {q : ApplyAnswer} {out' : List ℕ} → r ≡ Ok n
       → Called (on_list_code (take n k2) (take n a2) (take n b2) (take n p2) (take n c2) (take n l2) s out) (on_list_items (take n k2) (take n a2) (take n b2) (take n p2) (take n c2) (take n l2) s) out q out'
       → Called (or_else code (new_code (entries spans) s out)) (new_items (entries spans) s) out q out'
   unfolding new_code new_items
@@ -132,7 +134,7 @@ module _ (code : ℕ) (spans : List FugueSpan) (k a b p c l : List ℕ) {k2 a2 b
         column_cut (λ (x : EntryNumbers). x.lamport) (entries spans) l l2 (rw w.0 at d.lamport),
       ) at u)
 
-  pub new_refused : (j : ℕ) (s out : List ℕ) → r ≡ Diff.Refused j → Called (or_else code (new_code (entries spans) s out)) (new_items (entries spans) s) out (Refused j) out
+  pub new_refused : (j : ℕ) (s out : List ℕ) → r ≡ refused j → Called (or_else code (new_code (entries spans) s out)) (new_items (entries spans) s) out (Refused j) out
   new_refused j s out e = or_refused code _ j _ out (diff_refused code (length (entries spans)) j (sym e ∙ d.said))
 
 -- the delta and the list

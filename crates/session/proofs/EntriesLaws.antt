@@ -12,11 +12,12 @@ use Rattle.script.specs.Print.{number_text, id_text, chunk_text, head_line}
 use Rattle.units.specs.Lists.{over}
 use Rattle.units.specs.declared.diff.Entry.{Entry}
 use Rattle.units.specs.declared.diff.Entry.TheVariants.{Retain, Delete, Insert}
-use Rattle.units.specs.declared.diff.OptLamport.TheVariants.{Nothing, At}
+use Rattle.std.specs.Prelude.{None as Nothing, Some as At}
 use Rattle.units.specs.Delta.{entries}
 use Rattle.rope.specs.declared.diff.EntryNumbers.{EntryNumbers}
-use Rattle.rope.specs.declared.diff.DiffAnswer.{DiffAnswer}
-use Rattle.rope.specs.declared.diff.DiffAnswer.TheVariants as Diff
+use Rattle.rope.specs.Maybe.{DiffAnswer}
+use Rattle.std.specs.Prelude.{Ok}
+use Rattle.span.specs.Refusal.{refused}
 use Rattle.rope.specs.Columns.{entry_numbers, column, least, Filled, Diffed}
 use Rattle.session.specs.Say.{up_to, Says}
 use Rattle.session.specs.Lines.{refused_lines}
@@ -65,11 +66,11 @@ module _ (es : List Entry) (k a b p c l : List ℕ) {k2 a2 b2 p2 c2 l2 : List �
 -- ---- the answer of a delta
 
 module _ (code : ℕ) (spans : List FugueSpan) (k a b p c l : List ℕ) {k2 a2 b2 p2 c2 l2 : List ℕ} {r : DiffAnswer} (d : Diffed code spans r k a b p c l k2 a2 b2 p2 c2 l2) where
-  pub delta_done : (n : ℕ) → r ≡ Diff.Done n → columns_lines k2 a2 b2 p2 c2 l2 n ≡ delta_lines code (entries spans)
+  pub delta_done : (n : ℕ) → r ≡ Ok n → columns_lines k2 a2 b2 p2 c2 l2 n ≡ delta_lines code (entries spans)
   unfolding delta_lines answer
   delta_done n f = go (eqb code 0) refl (sym f ∙ d.said)
     where
-      go : (t : Bool) → eqb code 0 ≡ t → Diff.Done n ≡ cond t (Diff.Done (length (entries spans))) (Diff.Refused code)
+      go : (t : Bool) → eqb code 0 ≡ t → Ok n ≡ cond t (Ok (length (entries spans))) (refused code)
           → columns_lines k2 a2 b2 p2 c2 l2 n ≡ cond t (entries_lines (entries spans)) (refused_lines code)
       go true e q =
           let m : n ≡ length (entries spans) = cc in
@@ -84,11 +85,11 @@ module _ (code : ℕ) (spans : List FugueSpan) (k a b p c l : List ℕ) {k2 a2 b
           }))
       go false e q = absurd (let z : ◌≡◌ {A = ℕ} 0 1 = cc in omega arith)
 
-  pub delta_refused : (j : ℕ) → r ≡ Diff.Refused j → refused_lines j ≡ delta_lines code (entries spans)
+  pub delta_refused : (j : ℕ) → r ≡ refused j → refused_lines j ≡ delta_lines code (entries spans)
   unfolding delta_lines answer
   delta_refused j f = go (eqb code 0) (sym f ∙ d.said)
     where
-      go : (t : Bool) → Diff.Refused j ≡ cond t (Diff.Done (length (entries spans))) (Diff.Refused code)
+      go : (t : Bool) → refused j ≡ cond t (Ok (length (entries spans))) (refused code)
           → refused_lines j ≡ cond t (entries_lines (entries spans)) (refused_lines code)
       go true q = absurd (let z : ◌≡◌ {A = ℕ} 0 1 = cc in omega arith)
       go false q = let m : j ≡ code = cc in ap refused_lines m

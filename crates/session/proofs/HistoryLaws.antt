@@ -3,7 +3,7 @@ use Rattle.std.proofs.Common.{◌≡◌, ℕ, List, take, replicate, ◌∙◌}
 use Rattle.tracker.specs.declared.row.Head.{Head}
 use Rattle.tracker.specs.Rows.{to_edit}
 use Rattle.tracker.specs.Entries.{version_of, Leaves, arrive_number, arrived, checkout_number, checked_out}
-use Rattle.rope.specs.declared.diff.DiffAnswer.{DiffAnswer}
+use Rattle.rope.specs.Maybe.{DiffAnswer}
 use Rattle.units.specs.Delta.{entries}
 use Rattle.tracker.specs.Between.{between, Deltas}
 use Rattle.session.specs.Say.{Says}

@@ -2,7 +2,8 @@
 use Rattle.std.proofs.Common.{◌≡◌, ℕ, zero, suc, ◌+◌, ◌*◌, ◌/◌, ◌%◌, ◌^◌, ◌<◌, ◌≤◌, Bool, true, false, cond, List, [], ◌∷◌, ◌++◌, length, get_or, take, drop, sym, refl, ap, ◌∙◌, ap₂, append_assoc, append-nil, mod-eq_of_lt, add-one, arith, length-append, drop-drop, le-ltb, lt-ltb}
 use Rattle.text.specs.Ascii.{ascii}
 use Rattle.span.specs.declared.span.FugueSpan.{FugueSpan}
-use Rattle.span.specs.declared.span.SpanAnswer.TheVariants as Part
+use Rattle.std.specs.Prelude.{Some, Ok}
+use Rattle.span.specs.Refusal.{refused}
 use Rattle.span.specs.Status.{activated}
 use Rattle.span.specs.Span.{len_span, span_code, shift, part_span, slice_span_code, slice_span_of, active_len}
 use Rattle.span.specs.Units.{tab, unit_at, units_of, expand}
@@ -20,7 +21,6 @@ use Rattle.rope.proofs.States.{part_rest, room_long, state_of}
 use Rattle.tracker.specs.Rows.{is_history}
 use Rattle.tracker.proofs.Leaving.{well_of}
 use Rattle.script.specs.Print.{head_line, unit_line}
-use Rattle.session.specs.declared.look.Row.TheVariants as Row
 use Rattle.session.specs.declared.look.Kind.{Kind}
 use Rattle.session.specs.declared.look.Kind.TheVariants as Kind
 use Rattle.session.specs.Say.{up_to}
@@ -98,9 +98,9 @@ upto_each f g h i (suc n) e =
 
 -- ---------------------------------------------------------------- the lines of a well formed span
 
-slice_done : (x : FugueSpan) (k : ℕ) → span_code x ≡ 0 → k < len_span x → slice_span_of x k (k + 1) ≡ Part.Done (unit_at x k)
+slice_done : (x : FugueSpan) (k : ℕ) → span_code x ≡ 0 → k < len_span x → slice_span_of x k (k + 1) ≡ Ok (unit_at x k)
 slice_done x k c h =
-    sym (is_done Part.Done Part.Refused (slice_span_code x k (k + 1)) (in_range_lem x k (k + 1) c (omega arith) (omega arith)) (ap (part_span x k) (sym (add-one k))))
+    sym (is_done Ok refused (slice_span_code x k (k + 1)) (in_range_lem x k (k + 1) c (omega arith) (omega arith)) (ap (part_span x k) (sym (add-one k))))
 
 module _ (x : FugueSpan) (c : span_code x ≡ 0) where
   unit_line_lem : (k : ℕ) → k < len_span x → unit_lines Kind.Units (slice_span_of x k (k + 1)) ≡ unit_line (unit_at x k) ∷ []
@@ -197,11 +197,11 @@ row_past s b = ap span_of (words_moved s (drop 72 s) (b + 72) b (λ k m h. ap (t
     moved k = omega arith
 
 module _ (s : List ℕ) (n : ℕ) (long : n * 72 + 72 ≤ length s) (ok : AllOk (rows n (drop 72 s))) where
-  row_is : (i : ℕ) → i < n → row_of s i ≡ Row.Is (get_or (rows n (drop 72 s)) i (row_at s 0))
+  row_is : (i : ℕ) → i < n → row_of s i ≡ Some (get_or (rows n (drop 72 s)) i (row_at s 0))
   unfolding row_of
   row_is i h =
       rw (lt-ltb (i + 1) (length s / 72) (omega arith))
-      (ap Row.Is (sym (rows_at n (drop 72 s) i (row_at s 0) h ∙ row_past s (i * 72) ∙ ap (row_at s) next)))
+      (ap Some (sym (rows_at n (drop 72 s) i (row_at s 0) h ∙ row_past s (i * 72) ∙ ap (row_at s) next)))
     where
       next : i * 72 + 72 ≡ (i + 1) * 72
       next = omega arith

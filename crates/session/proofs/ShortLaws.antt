@@ -12,8 +12,9 @@ use Rattle.std.specs.Prelude as OptId
 use Rattle.span.specs.declared.status.Status.{Status}
 use Rattle.span.specs.Maybe.{OptStatus}
 use Rattle.span.specs.declared.span.FugueSpan.{FugueSpan}
-use Rattle.span.specs.declared.span.SpanAnswer.{SpanAnswer}
-use Rattle.span.specs.declared.span.SpanAnswer.TheVariants as Part
+use Rattle.span.specs.Maybe.{SpanAnswer}
+use Rattle.std.specs.Prelude.{Some, None, Ok}
+use Rattle.span.specs.Refusal.{refused}
 use Rattle.span.specs.declared.chunk.RichtextChunk.{RichtextChunk}
 use Rattle.span.specs.declared.chunk.RichtextChunkValue.{RichtextChunkValue}
 use Rattle.span.specs.declared.chunk.RichtextChunkValue.TheVariants as Value
@@ -22,15 +23,13 @@ use Rattle.span.specs.Ids.{UNKNOWN_PEER}
 use Rattle.span.specs.Chunk.{value_of}
 use Rattle.span.specs.Span.{len_span, slice_span_of}
 use Rattle.store.specs.Row.{row_at}
-use Rattle.rope.specs.declared.query.LenAnswer.{LenAnswer}
-use Rattle.rope.specs.declared.query.LenAnswer.TheVariants as Len
+use Rattle.rope.specs.Maybe.{LenAnswer}
 use Rattle.rope.specs.declared.query.RealAnswer.{RealAnswer}
 use Rattle.rope.specs.declared.query.RealAnswer.TheVariants as Real
 use Rattle.script.specs.declared.call.Look.{Look}
 use Rattle.script.specs.declared.call.Look.TheVariants as Look
 use Rattle.script.specs.Print.{peer_text, number_text, id_text, opt_id_text, future_text, status_text, opt_status_text, named_text, value_text, span_text, head_line, unit_line, span_line, item_line, at_line}
-use Rattle.session.specs.declared.look.Row.{Row}
-use Rattle.session.specs.declared.look.Row.TheVariants as Row
+use Rattle.session.specs.Maybe.{Row}
 use Rattle.session.specs.declared.look.Kind.{Kind}
 use Rattle.session.specs.declared.look.Kind.TheVariants as Kind
 use Rattle.session.specs.Say.{line_start, said_at, said_text, up_to, Short, whole_at, whole_text}
@@ -201,8 +200,8 @@ short_done code = go (eqb code 0)
 
 pub short_len : (a : LenAnswer) → Short (len_lines a)
 unfolding len_lines
-short_len (Len.Done n) = short_head (ascii "len") n (omega arith)
-short_len (Len.Refused code) = short_refused code
+short_len (Ok n) = short_head (ascii "len") n (omega arith)
+short_len (refused code) = short_refused code
 
 pub short_at : (a : RealAnswer) → Short (at_lines a)
 unfolding at_lines
@@ -221,8 +220,8 @@ one_short Kind.Items u = short_line (item_line _ u.content) (item_most _ u.conte
 
 unit_short : (kind : Kind) (a : SpanAnswer) → Short (unit_lines kind a)
 unfolding unit_lines
-unit_short kind (Part.Done u) = one_short kind u
-unit_short kind (Part.Refused code) = short_none
+unit_short kind (Ok u) = one_short kind u
+unit_short kind (refused code) = short_none
 
 span_short : (kind : Kind) (x : FugueSpan) → Short (span_lines kind x)
 unfolding span_lines
@@ -232,8 +231,8 @@ span_short Kind.Items x = short_upto _ _ (λ (k : ℕ). unit_short Kind.Items (s
 
 row_short : (kind : Kind) (r : Row) → Short (row_lines kind r)
 unfolding row_lines
-row_short kind (Row.Is x) = span_short kind x
-row_short kind Row.Nothing = short_none
+row_short kind (Some x) = span_short kind x
+row_short kind None = short_none
 
 kind_most : (kind : Kind) → length (kind_name kind) ≤ 7
 unfolding kind_name

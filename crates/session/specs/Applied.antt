@@ -9,8 +9,9 @@ use Rattle.units.specs.Codes.{unless, kept}
 use Rattle.units.specs.Delta.{entries}
 use Rattle.rope.specs.Columns.{column}
 use Rattle.apply.specs.declared.item.Item.{Item}
-use Rattle.apply.specs.declared.delta.ApplyAnswer.{ApplyAnswer}
-use Rattle.apply.specs.declared.delta.ApplyAnswer.TheVariants.{Done, Refused}
+use Rattle.apply.specs.Maybe.{ApplyAnswer}
+use Rattle.std.specs.Prelude.{Ok as Done}
+use Rattle.span.specs.Refusal.{refused as Refused}
 use Rattle.apply.specs.Items.{items_bytes}
 use Rattle.apply.specs.Called.{Called, delta_items, delta_code, shown_items}
 use Rattle.tracker.specs.Entries.{version_of, Leaves, checked_out}

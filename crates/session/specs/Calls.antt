@@ -4,7 +4,8 @@ use Rattle.span.specs.declared.span.FugueSpan.{FugueSpan}
 use Rattle.span.specs.Answer.{answer}
 use Rattle.rope.specs.Edits.{EditedIn}
 use Rattle.rope.specs.Deletions.{Deleted}
-use Rattle.rope.specs.declared.delete.DeleteAnswer.TheVariants as Delete
+use Rattle.std.specs.Prelude.{Ok}
+use Rattle.span.specs.Refusal.{refused}
 use Rattle.units.specs.declared.change.SetFuture as To
 use Rattle.units.specs.declared.change.SetFuture.TheVariants as Set
 use Rattle.script.specs.declared.call.SetFuture.{SetFuture}
@@ -24,7 +25,7 @@ delete_lines code out n = if code == 0 then pieces_lines out n else refused_line
 -- a delete, which leaves t of the store s and p of the output o
 pub record DeleteSaid (code : ℕ) (l ps : List FugueSpan) (s o t p : List ℕ) (at : ℕ) (b : List ℕ) (r : ℕ) (u : List ℕ) : Type 0 where
   pub said : Says at (delete_lines code p (length ps)) b r u
-  pub store : Deleted code l ps (answer Delete.Done Delete.Refused code (length ps)) s o t p
+  pub store : Deleted code l ps (answer Ok refused code (length ps)) s o t p
 
 -- future, now or keep
 unfoldable pub set_of : SetFuture → To.SetFuture

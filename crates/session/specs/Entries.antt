@@ -9,8 +9,9 @@ use Rattle.units.specs.Store.{spans_of}
 use Rattle.units.specs.Delta.{entries}
 use Rattle.rope.specs.Columns.{numbers, entry_numbers, get_diff_code}
 use Rattle.apply.specs.declared.item.Item.{Item}
-use Rattle.apply.specs.declared.delta.ApplyAnswer.{ApplyAnswer}
-use Rattle.apply.specs.declared.delta.ApplyAnswer.TheVariants.{Done, Refused}
+use Rattle.apply.specs.Maybe.{ApplyAnswer}
+use Rattle.std.specs.Prelude.{Ok as Done}
+use Rattle.span.specs.Refusal.{refused as Refused}
 use Rattle.apply.specs.Items.{item_in}
 use Rattle.script.specs.Print.{number_text, id_text, chunk_text, head_line, item_line}
 use Rattle.session.specs.Say.{up_to}

@@ -7,21 +7,20 @@ use Rattle.script.specs.Print.{head_line, unit_line, span_line, item_line, at_li
 use Rattle.script.specs.declared.call.Look.{Look}
 use Rattle.script.specs.declared.call.Look.TheVariants as Look
 use Rattle.span.specs.declared.span.FugueSpan.{FugueSpan}
-use Rattle.span.specs.declared.span.SpanAnswer.{SpanAnswer}
-use Rattle.span.specs.declared.span.SpanAnswer.TheVariants as Part
+use Rattle.span.specs.Maybe.{SpanAnswer}
+use Rattle.std.specs.Prelude.{Some, None, Ok}
+use Rattle.span.specs.Refusal.{refused}
 use Rattle.span.specs.Span.{len_span, active_len, real_of, slice_span_of}
 use Rattle.store.specs.Row.{row_at, row_bytes}
 use Rattle.store.specs.Header.{count}
-use Rattle.rope.specs.declared.query.LenAnswer.{LenAnswer}
-use Rattle.rope.specs.declared.query.LenAnswer.TheVariants as Len
+use Rattle.rope.specs.Maybe.{LenAnswer}
 use Rattle.rope.specs.declared.query.RealAnswer.{RealAnswer}
 use Rattle.rope.specs.declared.query.RealAnswer.TheVariants as Real
 use Rattle.units.specs.Store.{is_state}
 use Rattle.rope.specs.Entries.{len_answer, real_answer}
 use Rattle.tracker.specs.Rows.{is_history}
 use Rattle.tracker.specs.Asks.{len_asked, real_asked}
-use Rattle.session.specs.declared.look.Row.{Row}
-use Rattle.session.specs.declared.look.Row.TheVariants as Row
+use Rattle.session.specs.Maybe.{Row}
 use Rattle.session.specs.declared.look.Kind.{Kind}
 use Rattle.session.specs.declared.look.Kind.TheVariants as Kind
 use Rattle.session.specs.Say.{up_to}
@@ -44,8 +43,8 @@ done_lines code = if code == 0 then ok_lines else refused_lines code
 
 -- len N
 unfoldable pub len_lines : LenAnswer → List (List ℕ)
-len_lines (Len.Done n) = head_line (ascii "len") n ∷ []
-len_lines (Len.Refused code) = refused_lines code
+len_lines (Ok n) = head_line (ascii "len") n ∷ []
+len_lines (refused code) = refused_lines code
 
 -- at ID LEFT, or at nothing
 unfoldable pub at_lines : RealAnswer → List (List ℕ)
@@ -67,8 +66,8 @@ one_lines Kind.Items u = item_line (real_of u) u.content ∷ []
 
 -- the unit of a slice; a malformed span has none
 unfoldable pub unit_lines : Kind → SpanAnswer → List (List ℕ)
-unit_lines kind (Part.Done u) = one_lines kind u
-unit_lines kind (Part.Refused code) = []
+unit_lines kind (Ok u) = one_lines kind u
+unit_lines kind (refused code) = []
 
 -- the first n units of a span
 abbrev pub units_lines : Kind → FugueSpan → ℕ → List (List ℕ)
@@ -87,15 +86,15 @@ span_count Kind.Items x = active_len x
 
 -- row i of a store's list, which begins after the header; none past the room
 unfoldable pub row_of : List ℕ → ℕ → Row
-row_of s i = if nat_lt (i + 1) (length s / 72) then Row.Is (row_at s ((i + 1) * 72)) else Row.Nothing
+row_of s i = if nat_lt (i + 1) (length s / 72) then Some (row_at s ((i + 1) * 72)) else None
 
 unfoldable pub row_lines : Kind → Row → List (List ℕ)
-row_lines kind (Row.Is x) = span_lines kind x
-row_lines kind Row.Nothing = []
+row_lines kind (Some x) = span_lines kind x
+row_lines kind None = []
 
 unfoldable pub row_count : Kind → Row → ℕ
-row_count kind (Row.Is x) = span_count kind x
-row_count kind Row.Nothing = 0
+row_count kind (Some x) = span_count kind x
+row_count kind None = 0
 
 -- the rows that the header says; none without a header
 unfoldable pub rows_said : List ℕ → ℕ

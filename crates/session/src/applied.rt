@@ -16,9 +16,7 @@ use crate::entries::most;
 use crate::front::{front_items, front8, front32, front64};
 use crate::versions::columns;
 use crate::{entries, reply};
-use apply::delta::ApplyAnswer;
 use apply::item::get_item;
-use rope::diff::DiffAnswer;
 use script::field::word;
 
 // ---- The delta
@@ -35,7 +33,7 @@ fn delta_into(
     peer: &mut [u64],
     counter: &mut [u32],
     lamport: &mut [u32],
-) -> DiffAnswer
+) -> Result<usize, Refusal>
     ensures { Deltas s.old t.now e.now (version_of (word_peers (word_of line.now 1)) (word_counts (word_of line.now 1))) (version_of (word_peers (word_of line.now 2)) (word_counts (word_of line.now 2))) (least (length kind.old) (length a.old) (length b.old) (length peer.old) (length counter.old) (length lamport.old)) result s.new kind.old a.old b.old peer.old counter.old lamport.old kind.new a.new b.new peer.new counter.new lamport.new }
 {
     let mut from_peers = [0u64; 32];
@@ -80,10 +78,10 @@ fn print_delta(
     ensures { Tells (least (length kind.old) (length a.old) (length b.old) (length peer.old) (length counter.old) (length lamport.old)) (word_of line.now 1) (word_of line.now 2) s.old t.now e.now at text.old result s.new text.new }
 {
     match delta_into(line, s, t, e, kind, a, b, peer, counter, lamport) {
-        DiffAnswer::Done(n) => entries::entries(
+        Ok(n) => entries::entries(
             kind, a, b, peer, counter, lamport, n, output, text, at,
         ),
-        DiffAnswer::Refused(code) => reply::refused(output, text, at, code),
+        Err(code) => reply::refused(output, text, at, code),
     }
 }
 
@@ -161,7 +159,7 @@ fn apply_entries(
     n: usize,
     old: &[u8],
     out: &mut [u8],
-) -> ApplyAnswer
+) -> Result<usize, Refusal>
     ensures { Called (delta_code (take n kind.now) (take n a.now) (take n b.now) (take n peer.now) (take n counter.now) (take n lamport.now) old.now out.old) (delta_items (take n kind.now) (take n a.now) (take n b.now) (take n peer.now) (take n counter.now) (take n lamport.now) old.now) out.old result out.new }
 {
     apply::delta::apply(
@@ -176,12 +174,12 @@ fn apply_entries(
     )
 }
 
-fn listed(r: ApplyAnswer, out: &[u8], output: &mut Output, text: &mut [u8], at: usize) -> usize
+fn listed(r: Result<usize, Refusal>, out: &[u8], output: &mut Output, text: &mut [u8], at: usize) -> usize
     ensures { Says at (answer_lines r out.now) text.old result text.new }
 {
     match r {
-        ApplyAnswer::Done(n) => items(out, n, output, text, at),
-        ApplyAnswer::Refused(code) => reply::refused(output, text, at, code),
+        Ok(n) => items(out, n, output, text, at),
+        Err(code) => reply::refused(output, text, at, code),
     }
 }
 
@@ -196,12 +194,12 @@ fn apply_to_list(
     lamport: &[u32],
     n: usize,
     out: &mut [u8],
-) -> ApplyAnswer
+) -> Result<usize, Refusal>
     ensures { Called (on_list_code (take n kind.now) (take n a.now) (take n b.now) (take n peer.now) (take n counter.now) (take n lamport.now) s.now out.old) (on_list_items (take n kind.now) (take n a.now) (take n b.now) (take n peer.now) (take n counter.now) (take n lamport.now) s.now) out.old result out.new }
 {
     let mut old = [0u8; 589824];
     match apply::visible::visible_items(s, &mut old) {
-        ApplyAnswer::Done(m) => apply_entries(
+        Ok(m) => apply_entries(
             kind,
             a,
             b,
@@ -212,7 +210,7 @@ fn apply_to_list(
             front_items(&old, m),
             out,
         ),
-        ApplyAnswer::Refused(code) => ApplyAnswer::Refused(code),
+        Err(code) => Err(code),
     }
 }
 
@@ -229,12 +227,12 @@ fn apply_delta(
     counter: &mut [u32],
     lamport: &mut [u32],
     out: &mut [u8],
-) -> ApplyAnswer
+) -> Result<usize, Refusal>
     ensures { AppliesIn (least (length kind.old) (length a.old) (length b.old) (length peer.old) (length counter.old) (length lamport.old)) (word_of line.now 1) (word_of line.now 2) s.old t.now e.now out.old result s.new out.new }
 {
     match delta_into(line, s, t, e, kind, a, b, peer, counter, lamport) {
-        DiffAnswer::Done(n) => apply_to_list(s, kind, a, b, peer, counter, lamport, n, out),
-        DiffAnswer::Refused(code) => ApplyAnswer::Refused(code),
+        Ok(n) => apply_to_list(s, kind, a, b, peer, counter, lamport, n, out),
+        Err(code) => Err(code),
     }
 }
 
@@ -246,7 +244,7 @@ fn with_columns(
     e: &[u8],
     room: usize,
     out: &mut [u8],
-) -> ApplyAnswer
+) -> Result<usize, Refusal>
     ensures { AppliesIn (lent_entries room) (word_of line.now 1) (word_of line.now 2) s.old t.now e.now out.old result s.new out.new }
 {
     let n = most(room);

@@ -13,7 +13,6 @@ ghost use Rattle.session.specs.Calls.{EditSaid, DeleteSaid, set_of};
 
 use crate::console::Output;
 use crate::{entries, reply};
-use rope::delete::DeleteAnswer;
 use script::call::{Delete, Insert, RopeCall, SetFuture, Update};
 
 fn insert(x: Insert, s: &mut [u8], output: &mut Output, text: &mut [u8], at: usize) -> usize
@@ -65,8 +64,8 @@ fn delete(
     ensures { DeleteSaid (delete_number s.old out.old x.pos x.len x.start x.reversed) (delete_list s.old x.pos x.len x.start) (pieces (spans_of s.old) x.pos x.len x.reversed) s.old out.old s.new out.new at text.old result text.new }
 {
     match rope::delete::delete(s, out, x.pos, x.len, x.start, x.reversed) {
-        DeleteAnswer::Done(n) => pieces(out, n, output, text, at),
-        DeleteAnswer::Refused(code) => reply::refused(output, text, at, code),
+        Ok(n) => pieces(out, n, output, text, at),
+        Err(code) => reply::refused(output, text, at, code),
     }
 }
 

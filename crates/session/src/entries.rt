@@ -7,7 +7,7 @@ ghost use Rattle.session.specs.Entries.{lamport_text, insert_line, entry_line, n
 
 use crate::console::Output;
 use crate::reply;
-use rope::diff::{DiffAnswer, EntryNumbers};
+use rope::diff::{EntryNumbers};
 use script::print;
 use span::chunk::RichtextChunk;
 use text::puts::put;
@@ -145,8 +145,8 @@ fn diff_into(
     ensures { Says at (diff_lines (least (length kind.old) (length a.old) (length b.old) (length peer.old) (length counter.old) (length lamport.old)) s.now) text.old result text.new }
 {
     match rope::diff::get_diff(s, kind, a, b, peer, counter, lamport) {
-        DiffAnswer::Done(n) => entries(kind, a, b, peer, counter, lamport, n, output, text, at),
-        DiffAnswer::Refused(code) => reply::refused(output, text, at, code),
+        Ok(n) => entries(kind, a, b, peer, counter, lamport, n, output, text, at),
+        Err(code) => reply::refused(output, text, at, code),
     }
 }
 

@@ -9,31 +9,25 @@ ghost use Rattle.script.specs.Print.{head_line};
 
 use crate::console::Output;
 use crate::reply;
-use rope::query::{LenAnswer, RealAnswer};
+use rope::query::{RealAnswer};
 use script::call::Look;
 use script::print;
-use span::span::{FugueSpan, SpanAnswer};
+use span::span::{FugueSpan};
 use store::header;
 use text::puts::{put, put_hex};
 
-#[derive(Clone, Copy)]
-pub enum Row {
-    Is(FugueSpan),
-    Nothing,
-}
-
-// Row i of the list: the header stands before row 0.
-pub fn row_of(s: &[u8], i: usize) -> Row
+// Option<FugueSpan> i of the list: the header stands before row 0.
+pub fn row_of(s: &[u8], i: usize) -> Option<FugueSpan>
     ensures { result ≡ row_of s.now i }
 {
     let n = s.len() / 72;
     if n == 0 {
-        return Row::Nothing;
+        return None;
     }
     if i < n - 1 {
-        Row::Is(store::get_row(s, i + 1))
+        Some(store::get_row(s, i + 1))
     } else {
-        Row::Nothing
+        None
     }
 }
 
@@ -48,12 +42,12 @@ fn rows_of(s: &[u8]) -> usize
     }
 }
 
-fn len(a: LenAnswer, output: &mut Output, text: &mut [u8], at: usize) -> usize
+fn len(a: Result<usize, Refusal>, output: &mut Output, text: &mut [u8], at: usize) -> usize
     ensures { Says at (len_lines a) text.old result text.new }
 {
     match a {
-        LenAnswer::Done(n) => reply::counted(output, text, at, b"len", n as u64),
-        LenAnswer::Refused(code) => reply::refused(output, text, at, code),
+        Ok(n) => reply::counted(output, text, at, b"len", n as u64),
+        Err(code) => reply::refused(output, text, at, code),
     }
 }
 
@@ -94,12 +88,12 @@ fn unit(
     ensures { Says at (unit_lines kind (slice_span_of x k next)) text.old result text.new }
 {
     match x.slice(k, next) {
-        SpanAnswer::Done(u) => match kind {
+        Ok(u) => match kind {
             Kind::Units => reply::unit(output, text, at, u),
             Kind::Spans => at,
             Kind::Items => reply::item(output, text, at, u.real_id(), u.content),
         },
-        SpanAnswer::Refused(_) => at,
+        Err(_) => at,
     }
 }
 
@@ -138,8 +132,8 @@ fn lines_at(kind: Kind, s: &[u8], i: usize) -> u64
     ensures { result ≡ row_count kind (row_of s.now i) }
 {
     match row_of(s, i) {
-        Row::Is(x) => lines(kind, x),
-        Row::Nothing => 0,
+        Some(x) => lines(kind, x),
+        None => 0,
     }
 }
 
@@ -169,8 +163,8 @@ fn row_at(kind: Kind, s: &[u8], i: usize, output: &mut Output, text: &mut [u8], 
     ensures { Says at (row_lines kind (row_of s.now i)) text.old result text.new }
 {
     match row_of(s, i) {
-        Row::Is(x) => row_lines(kind, x, output, text, at),
-        Row::Nothing => at,
+        Some(x) => row_lines(kind, x, output, text, at),
+        None => at,
     }
 }
 

@@ -1,7 +1,7 @@
 // Whether an answer is the recorded one.
-use span::chunk::{ChunkAnswer, RichtextChunk};
-use span::ids::{Id, IdSpanAnswer};
-use span::span::{FugueSpan, SpanAnswer};
+use span::chunk::{RichtextChunk};
+use span::ids::{Id};
+use span::span::{FugueSpan};
 
 pub fn same_chunk(a: RichtextChunk, b: RichtextChunk) -> bool {
     a.start == b.start && a.end == b.end
@@ -33,24 +33,24 @@ pub fn same_span(a: FugueSpan, b: FugueSpan) -> bool {
 }
 
 // Every call of the list is one that the Rust answers and document 01 accepts: a refusal is a difference.
-pub fn is_chunk(a: ChunkAnswer, c: RichtextChunk) -> bool {
+pub fn is_chunk(a: Result<RichtextChunk, Refusal>, c: RichtextChunk) -> bool {
     match a {
-        ChunkAnswer::Done(d) => same_chunk(d, c),
-        ChunkAnswer::Refused(_) => false,
+        Ok(d) => same_chunk(d, c),
+        Err(_) => false,
     }
 }
 
-pub fn is_span(a: SpanAnswer, s: FugueSpan) -> bool {
+pub fn is_span(a: Result<FugueSpan, Refusal>, s: FugueSpan) -> bool {
     match a {
-        SpanAnswer::Done(t) => same_span(t, s),
-        SpanAnswer::Refused(_) => false,
+        Ok(t) => same_span(t, s),
+        Err(_) => false,
     }
 }
 
 // The ids of one peer from start up to end.
-pub fn is_id_span(a: IdSpanAnswer, start: Id, end: Id) -> bool {
+pub fn is_id_span(a: Result<IdSpan, Refusal>, start: Id, end: Id) -> bool {
     match a {
-        IdSpanAnswer::Done(s) => {
+        Ok(s) => {
             let first = Id {
                 peer: s.peer,
                 counter: s.start,
@@ -61,6 +61,6 @@ pub fn is_id_span(a: IdSpanAnswer, start: Id, end: Id) -> bool {
             };
             first.same(start) && past.same(end)
         }
-        IdSpanAnswer::Refused(_) => false,
+        Err(_) => false,
     }
 }

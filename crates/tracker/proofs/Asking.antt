@@ -9,7 +9,8 @@ use Rattle.span.proofs.AnswerLaws.{is_done, is_refused}
 use Rattle.span.specs.Units.{expand}
 use Rattle.store.specs.Row.{rows}
 use Rattle.store.specs.Header.{count, room}
-use Rattle.rope.specs.declared.query.LenAnswer.TheVariants as Len
+use Rattle.std.specs.Prelude.{Ok}
+use Rattle.span.specs.Refusal.{refused}
 use Rattle.rope.specs.declared.query.RealAnswer.TheVariants as Real
 use Rattle.units.specs.Place.{shown}
 use Rattle.units.specs.Query.{real_span_at}
@@ -29,9 +30,9 @@ module _ (s t e : List ℕ) where
     unfolding ask_number
     ask_none = sym (ap (λ (b : Bool). unless b 15 (ask_code (room s) (target_room t) (history_in s t e))) w)
 
-    pub len_none : Len.Refused 15 ≡ len_asked s t e
+    pub len_none : refused 15 ≡ len_asked s t e
     unfolding len_asked
-    len_none = is_refused Len.Done Len.Refused (ask_number s t e) 15 (shown (on_units (history_in s t e)).list) (λ z. omega (arith, z)) ask_none
+    len_none = is_refused Ok refused (ask_number s t e) 15 (shown (on_units (history_in s t e)).list) (λ z. omega (arith, z)) ask_none
 
     pub real_none : (at : ℕ) → Real.Refused 15 ≡ real_asked s t e at
     unfolding real_asked
@@ -49,9 +50,9 @@ module _ (s t e : List ℕ) where
       unfolding history_in
       list_is = rows_are s (well_of s t e w).state n en
 
-      pub len_done : (k : ℕ) → k ≡ shown (expand (rows n (part s))) → Len.Done k ≡ len_asked s t e
+      pub len_done : (k : ℕ) → k ≡ shown (expand (rows n (part s))) → Ok k ≡ len_asked s t e
       unfolding len_asked on_units
-      len_done k q = is_done Len.Done Len.Refused (ask_number s t e) ask_zero (q ∙ ap (λ (l : List FugueSpan). shown (expand l)) list_is)
+      len_done k q = is_done Ok refused (ask_number s t e) ask_zero (q ∙ ap (λ (l : List FugueSpan). shown (expand l)) list_is)
 
       pub real_done : (at : ℕ) → real_said (real_span_at (rows n (part s)) at) ≡ real_asked s t e at
       unfolding real_asked

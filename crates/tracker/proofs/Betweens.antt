@@ -13,7 +13,7 @@ use Rattle.span.proofs.Unique.{AllUnits, expand-join}
 use Rattle.store.specs.Row.{rows}
 use Rattle.store.specs.Header.{count, room, spans_of}
 use Rattle.store.proofs.Laws.{length-rows}
-use Rattle.rope.specs.declared.diff.DiffAnswer.{DiffAnswer}
+use Rattle.rope.specs.Maybe.{DiffAnswer}
 use Rattle.units.specs.declared.diff.Entry.{Entry}
 use Rattle.units.specs.Limits.{fits}
 use Rattle.units.specs.Lists.{every}

@@ -9,8 +9,9 @@ use lib.ListN.{length}
 use Rattle.span.specs.declared.span.FugueSpan.{FugueSpan}
 use Rattle.span.proofs.AnswerLaws.{is_refused}
 use Rattle.store.specs.Header.{room}
-use Rattle.rope.specs.declared.diff.DiffAnswer.{DiffAnswer}
-use Rattle.rope.specs.declared.diff.DiffAnswer.TheVariants as Diff
+use Rattle.rope.specs.Maybe.{DiffAnswer}
+use Rattle.std.specs.Prelude.{Ok}
+use Rattle.span.specs.Refusal.{refused}
 use Rattle.units.specs.declared.diff.Entry.{Entry}
 use Rattle.rope.specs.declared.diff.EntryNumbers.{EntryNumbers}
 use Rattle.units.specs.Lists.{over}
@@ -35,7 +36,7 @@ number_none : (s t e : List ℕ) (a b : Version) (most : ℕ) → is_history s t
 unfolding delta_number
 number_none s t e a b most w = sym (ap (λ (q : Bool). unless q 15 (delta_code_in (room s) (target_room t) most (history_in s t e) a b)) w)
 
-pub delta_none : (s t e : List ℕ) (a b : Version) (most : ℕ) (c1 c2 c3 c4 c5 c6 : List ℕ) → is_history s t e ≡ false → Deltas s t e a b most (Diff.Refused 15) s c1 c2 c3 c4 c5 c6 c1 c2 c3 c4 c5 c6
+pub delta_none : (s t e : List ℕ) (a b : Version) (most : ℕ) (c1 c2 c3 c4 c5 c6 : List ℕ) → is_history s t e ≡ false → Deltas s t e a b most (refused 15) s c1 c2 c3 c4 c5 c6 c1 c2 c3 c4 c5 c6
 delta_none s t e a b most c1 c2 c3 c4 c5 c6 w = deltas_refused s t e a b most 15 c1 c2 c3 c4 c5 c6 (number_none s t e a b most w) (λ z. omega (arith, z))
 
 -- ---- a call answers and leaves what crate history says, of an output with as many places as the shortest column
@@ -62,7 +63,7 @@ diffed_six c d l m r c1 c2 c3 c4 c5 c6 d1 d2 d3 d4 d5 d6 p q v =
     λ g x. kept_not c (over (column g (entries l)) x) x (λ z. omega (arith, z, p)) ∙ sym (kept_not d (over (column g (entries m)) x) x (λ z. omega (arith, z, q)))
     in
     record {
-      said = v.said ∙ (sym (is_refused Diff.Done Diff.Refused c 6 (length (entries l)) six (sym p)) ∙ is_refused Diff.Done Diff.Refused d 6 (length (entries m)) six (sym q));
+      said = v.said ∙ (sym (is_refused Ok refused c 6 (length (entries l)) six (sym p)) ∙ is_refused Ok refused d 6 (length (entries m)) six (sym q));
       kind = v.kind ∙ f (λ (x : EntryNumbers). x.kind) c1;
       first = v.first ∙ f (λ (x : EntryNumbers). x.a) c2;
       second = v.second ∙ f (λ (x : EntryNumbers). x.b) c3;

@@ -5,7 +5,7 @@ use mathlib.Core.List.{List}
 use lib.ListN.{length}
 use Rattle.store.specs.Header.{room}
 use Rattle.units.specs.declared.diff.Entry.{Entry}
-use Rattle.rope.specs.declared.diff.DiffAnswer.{DiffAnswer}
+use Rattle.rope.specs.Maybe.{DiffAnswer}
 use Rattle.units.specs.Codes.{unless, kept}
 use Rattle.history.specs.Edit.{Version}
 use Rattle.history.specs.Codes.{delta_code}

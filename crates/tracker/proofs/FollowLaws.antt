@@ -20,8 +20,8 @@ use Rattle.span.proofs.ListLaws.{tab_from, tab-add}
 use Rattle.span.proofs.SpanLaws.{span_ok}
 use Rattle.span.proofs.Same.{same_id_refl}
 use Rattle.store.specs.Row.{rows, row_at}
-use Rattle.rope.specs.declared.find.Offset.{Offset}
-use Rattle.rope.specs.declared.find.Offset.TheVariants as Off
+use Rattle.rope.specs.Maybe.{Offset}
+use Rattle.std.specs.Prelude.{Some, None}
 use Rattle.rope.specs.Spans.{offset_of}
 use Rattle.units.specs.Lists.{some}
 use Rattle.rope.proofs.Lists.{or-false, or_both}
@@ -119,7 +119,7 @@ module _ (s : FugueSpan) (ok : span_code s ≡ 0) (r : Range) (k o : ℕ) (hk : 
   walks_past e = record { few = omega arith; low = omega arith; ends = λ h. refl; same = λ T I. pass T I e }
 
   -- it is no unit of the row
-  pub walks_none : offset_of s (At (inc_id r.id o)) ≡ Off.Nothing → Walks s k r o o (len_span s)
+  pub walks_none : offset_of s (At (inc_id r.id o)) ≡ None → Walks s k r o o (len_span s)
   walks_none e = walks_past (ap (memb (inc_id r.id o)) (sym (ids_tab s k (len_span s - k))) ∙ (memb_units (inc_id r.id o) (tab (unit_at s) k (len_span s - k)) ∙ tab_not s ok (At (inc_id r.id o)) k (len_span s - k) (omega arith) e))
 
   -- it is a unit before k
@@ -175,10 +175,10 @@ module _ (s : FugueSpan) (ok : span_code s ≡ 0) (r : Range) (k o : ℕ) (hk : 
   off : offset_of s (At (inc_id r.id o)) ≡ f
   off = ap (λ (i : Id). offset_of s (At i)) (sym ex) ∙ sym ef
 
-  pub walked_none : f ≡ Off.Nothing → Walks s k r o o n
+  pub walked_none : f ≡ None → Walks s k r o o n
   walked_none e = subst (Walks s k r o o) (sym en) (walks_none s ok r k o hk ho (off ∙ e))
 
-  module _ (d : ℕ) (e : f ≡ Off.At d) where
+  module _ (d : ℕ) (e : f ≡ Some d) where
     here : inc_id r.id o ≡ inc_id s.id d
     here = let w = (unit_off s ok (At (inc_id r.id o)) d (off ∙ e)).1 in cc
 

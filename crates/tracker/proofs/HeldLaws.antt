@@ -13,8 +13,8 @@ use lib.Seq.{take_all}
 use borrow.Author.Tests.{le-leb, lt-leb, eq-eqb, ne_eqb, ltb-true, ltb-false, leb-true, leb-false, eqb-true, eqb-false}
 use Rattle.span.specs.declared.ids.Id.{Id}
 use Rattle.std.specs.Prelude.{Some as At}
-use Rattle.span.specs.declared.status.Counter.{Counter}
-use Rattle.span.specs.declared.status.Counter.TheVariants as Ctr
+use Rattle.span.specs.Maybe.{Counter}
+use Rattle.std.specs.Prelude.{Some, None}
 use Rattle.span.specs.Ids.{room_opt}
 use Rattle.span.specs.Status.{eq_z, counter_of}
 use Rattle.store.specs.Limits.{PEERS}
@@ -48,8 +48,8 @@ lt-not a b = go (ltb a b) refl
 
 -- a counter, by its sign, is a number
 abbrev pub is_num : Counter → ℕ → Bool
-is_num (Ctr.At c) n = eqb c n
-is_num Ctr.Negative n = false
+is_num (Some c) n = eqb c n
+is_num None n = false
 
 is_of : (z : ℤ) (n : ℕ) → is_num (counter_of z) n ≡ eq_z z (pos n)
 is_of (pos c) n = refl
@@ -60,8 +60,8 @@ is_is z n k e = ap (λ (j : Counter). is_num j n) (sym e) ∙ is_of z n
 
 -- and a count is at least 1 and at most a number
 abbrev pub held_num : Counter → ℕ → Bool
-held_num (Ctr.At c) n = leb 1 c && leb c n
-held_num Ctr.Negative n = false
+held_num (Some c) n = leb 1 c && leb c n
+held_num None n = false
 
 held_num_of : (z : ℤ) (n : ℕ) → held_num (counter_of z) n ≡ le_z (pos 1) z && le_z z (pos n)
 held_num_of (pos c) n = refl

@@ -15,8 +15,9 @@ use Rattle.span.specs.declared.chunk.RichtextChunk.{RichtextChunk}
 use Rattle.span.specs.declared.ids.Id.{Id}
 use Rattle.std.specs.Prelude.{None as Nothing, Some as At}
 use Rattle.span.specs.declared.span.FugueSpan.{FugueSpan}
-use Rattle.span.specs.declared.span.SpanAnswer.{SpanAnswer}
-use Rattle.span.specs.declared.span.SpanAnswer.TheVariants.{Done, Refused}
+use Rattle.span.specs.Maybe.{SpanAnswer}
+use Rattle.std.specs.Prelude.{Ok as Done}
+use Rattle.span.specs.Refusal.{refused as Refused}
 use Rattle.span.specs.Chunk.{chunk, UNKNOWN, len_of, formed}
 use Rattle.span.specs.Ids.{id, UNKNOWN_PEER, room_opt}
 use Rattle.span.specs.Status.{eq_z}

@@ -11,8 +11,9 @@ use Rattle.span.specs.Units.{expand, join}
 use Rattle.span.proofs.AnswerLaws.{is_done, is_refused}
 use Rattle.store.specs.Row.{rows}
 use Rattle.store.specs.Header.{count, room, spans_of}
-use Rattle.rope.specs.declared.diff.DiffAnswer.{DiffAnswer}
-use Rattle.rope.specs.declared.diff.DiffAnswer.TheVariants as Diff
+use Rattle.rope.specs.Maybe.{DiffAnswer}
+use Rattle.std.specs.Prelude.{Ok}
+use Rattle.span.specs.Refusal.{refused}
 use Rattle.rope.specs.declared.diff.EntryNumbers.{EntryNumbers}
 use Rattle.units.specs.Limits.{EDITS, PEERS}
 use Rattle.units.specs.Lists.{every, over}
@@ -194,11 +195,11 @@ module _ (s t e : List ℕ) (w : is_history s t e ≡ true) (a b : List ℕ) (ka
 
 -- ---- what the columns are after a refusal
 
-pub diffed_refused : (code : ℕ) (l : List FugueSpan) (c1 c2 c3 c4 c5 c6 : List ℕ) → (code ≡ 0 → ⊥) → Diffed code l (Diff.Refused code) c1 c2 c3 c4 c5 c6 c1 c2 c3 c4 c5 c6
+pub diffed_refused : (code : ℕ) (l : List FugueSpan) (c1 c2 c3 c4 c5 c6 : List ℕ) → (code ≡ 0 → ⊥) → Diffed code l (refused code) c1 c2 c3 c4 c5 c6 c1 c2 c3 c4 c5 c6
 diffed_refused code l c1 c2 c3 c4 c5 c6 z =
     let f : (g : EntryNumbers → ℕ) (c : List ℕ) → c ≡ column_of code g (entries l) c = λ g c. sym (kept_not code (over (column g (entries l)) c) c z) in
     record {
-      said = is_refused Diff.Done Diff.Refused code code (length (entries l)) z refl;
+      said = is_refused Ok refused code code (length (entries l)) z refl;
       kind = f (λ (x : EntryNumbers). x.kind) c1;
       first = f (λ (x : EntryNumbers). x.a) c2;
       second = f (λ (x : EntryNumbers). x.b) c3;
@@ -207,17 +208,17 @@ diffed_refused code l c1 c2 c3 c4 c5 c6 z =
       lamport = f (λ (x : EntryNumbers). x.lamport) c6;
     }
 
-pub deltas_refused : (s t e : List ℕ) (a b : Version) (most code : ℕ) (c1 c2 c3 c4 c5 c6 : List ℕ) → code ≡ delta_number s t e most a b → (code ≡ 0 → ⊥) → Deltas s t e a b most (Diff.Refused code) s c1 c2 c3 c4 c5 c6 c1 c2 c3 c4 c5 c6
+pub deltas_refused : (s t e : List ℕ) (a b : Version) (most code : ℕ) (c1 c2 c3 c4 c5 c6 : List ℕ) → code ≡ delta_number s t e most a b → (code ≡ 0 → ⊥) → Deltas s t e a b most (refused code) s c1 c2 c3 c4 c5 c6 c1 c2 c3 c4 c5 c6
 deltas_refused s t e a b most code c1 c2 c3 c4 c5 c6 n z =
     record {
       leaves = leaves_refused (delta_number s t e most a b) (checked_out s t e a) code s t e n z;
-      diffed = subst (λ (d : ℕ). Diffed d (between s t e a b) (Diff.Refused code) c1 c2 c3 c4 c5 c6 c1 c2 c3 c4 c5 c6) n (diffed_refused code (between s t e a b) c1 c2 c3 c4 c5 c6 z);
+      diffed = subst (λ (d : ℕ). Diffed d (between s t e a b) (refused code) c1 c2 c3 c4 c5 c6 c1 c2 c3 c4 c5 c6) n (diffed_refused code (between s t e a b) c1 c2 c3 c4 c5 c6 z);
     }
 
 -- ---- the delta, from what was made ready
 
 module _ (s t e : List ℕ) (w : is_history s t e ≡ true) (a b : List ℕ) (ka kb most : ℕ) (r : Ready) (y : Readied s t e ka a kb b most r) where
-  pub to_refused : (r.code ≡ 0 → ⊥) → (c1 c2 c3 c4 c5 c6 : List ℕ) → Deltas s t e (version_in ka a) (version_in kb b) most (Diff.Refused r.code) s c1 c2 c3 c4 c5 c6 c1 c2 c3 c4 c5 c6
+  pub to_refused : (r.code ≡ 0 → ⊥) → (c1 c2 c3 c4 c5 c6 : List ℕ) → Deltas s t e (version_in ka a) (version_in kb b) most (refused r.code) s c1 c2 c3 c4 c5 c6 c1 c2 c3 c4 c5 c6
   to_refused z c1 c2 c3 c4 c5 c6 = deltas_refused s t e (version_in ka a) (version_in kb b) most r.code c1 c2 c3 c4 c5 c6 y.number z
 
   module _ (z : r.code ≡ 0) where
@@ -267,5 +268,5 @@ module _ (s t e : List ℕ) (w : is_history s t e ≡ true) (a b : List ℕ) (ka
           subst (λ (l : List FugueSpan). Diffed (delta_number s t e most (version_in ka a) (version_in kb b)) l q c1 c2 c3 c4 c5 c6 d1 d2 d3 d4 d5 d6) list
           (subst (λ (j : ℕ). Diffed j (both_of r.edits (edit_rows e) t ka a kb b (spans_of s)) q c1 c2 c3 c4 c5 c6 d1 d2 d3 d4 d5 d6) (diff_zero ∙ sym zero_number) v)
           in
-          let g : diff_number q ≡ 0 = ap diff_number (f.said ∙ sym (is_done Diff.Done Diff.Refused (delta_number s t e most (version_in ka a) (version_in kb b)) {x = length (entries (between s t e (version_in ka a) (version_in kb b)))} zero_number refl)) in
+          let g : diff_number q ≡ 0 = ap diff_number (f.said ∙ sym (is_done Ok refused (delta_number s t e most (version_in ka a) (version_in kb b)) {x = length (entries (between s t e (version_in ka a) (version_in kb b)))} zero_number refl)) in
           record { leaves = left (diff_number q) g; diffed = f }

@@ -22,8 +22,8 @@ use Rattle.span.proofs.Same.{same_id-true, same_id_refl, same_opt-true, same_opt
 use Rattle.span.proofs.SpanLaws.{span_ok}
 use Rattle.span.proofs.Unique.{in_range_lem}
 use Rattle.span.proofs.Views.{View, of_text, of_unknown, of_anchor, view, len_text, part_text, part_unknown, part_anchor}
-use Rattle.rope.specs.declared.find.Offset.{Offset}
-use Rattle.rope.specs.declared.find.Offset.TheVariants as Off
+use Rattle.rope.specs.Maybe.{Offset}
+use Rattle.std.specs.Prelude.{Some, None}
 use Rattle.units.specs.Lists.{some}
 use Rattle.rope.specs.Spans.{offset_of}
 use Rattle.rope.proofs.Lists.{and-true, or_left, or_right, or_both}
@@ -139,7 +139,7 @@ module _ (s x : FugueSpan) (ok : span_code s ≡ 0) (fine : span_code x ≡ 0) w
       }
 
   -- a unit of x that is the same has the id's place
-  place : (k j : ℕ) → j < len_span x → same_unit (unit_at s k) (unit_at x j) ≡ true → offset_of x (At (unit_at s k).id) ≡ Off.At j
+  place : (k j : ℕ) → j < len_span x → same_unit (unit_at s k) (unit_at x j) ≡ true → offset_of x (At (unit_at s k).id) ≡ Some j
   place k j h e = ap (λ (i : Id). offset_of x (At i)) (same_id_lem e) ∙ off_unit x fine j h
     where
       same_id_lem : same_unit (unit_at s k) (unit_at x j) ≡ true → (unit_at s k).id ≡ inc_id x.id j
@@ -158,10 +158,10 @@ some-tab t f i (suc n) (suc j) h e = or_right (t (f i)) (some t (tab f (suc i) n
 
 -- ---------------------------------------------------------------- a row against a span
 
-at_at : (a b : ℕ) (f : Offset) → f ≡ Off.At a → f ≡ Off.At b → a ≡ b
+at_at : (a b : ℕ) (f : Offset) → f ≡ Some a → f ≡ Some b → a ≡ b
 at_at a b f p q = cc
 
-at_none : (a : ℕ) (f : Offset) → f ≡ Off.At a → f ≡ Off.Nothing → ⊥
+at_none : (a : ℕ) (f : Offset) → f ≡ Some a → f ≡ None → ⊥
 at_none a f p q = let z : ◌≡◌ {A = ℕ} 0 1 = cc in omega arith
 
 module _ (s x : FugueSpan) (k : ℕ) (ok : span_code s ≡ 0) (fine : span_code x ≡ 0) (h : k < len_span s) (u : FugueSpan) (eu : u ≡ unit_at s k) (f : Offset) (ef : f ≡ offset_of x (At u.id)) where
@@ -171,13 +171,13 @@ module _ (s x : FugueSpan) (k : ℕ) (ok : span_code s ≡ 0) (fine : span_code 
   empty : some (same_unit (unit_at s k)) (units_of x) ≡ false → Meets s k (units_of x) 0
   empty e = record { none = λ z. e; few = omega arith; all = λ j z. absurd (omega arith) }
 
-  pub meets_none : f ≡ Off.Nothing → Meets s k (units_of x) 0
+  pub meets_none : f ≡ None → Meets s k (units_of x) 0
   meets_none e = empty (unfold units_of in some_none (same_unit (unit_at s k)) (unit_at x) 0 (len_span x) each)
     where
       each : (j : ℕ) → 0 ≤ j → j < 0 + len_span x → same_unit (unit_at s k) (unit_at x j) ≡ false
       each j a b = not_both (same_unit (unit_at s k) (unit_at x j)) (λ z. at_none j (offset_of x (At (unit_at s k).id)) (place s x ok fine k j (omega arith) z) (off ∙ e))
 
-  module _ (d : ℕ) (e : f ≡ Off.At d) where
+  module _ (d : ℕ) (e : f ≡ Some d) where
     pub meets_low : d < len_span x
     meets_low = (unit_off x fine (At (unit_at s k).id) d (off ∙ e)).0
 

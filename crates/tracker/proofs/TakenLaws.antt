@@ -20,8 +20,8 @@ use Rattle.span.proofs.IdsLaws.{roomy}
 use Rattle.span.proofs.SpanLaws.{span_ok}
 use Rattle.store.specs.Row.{rows}
 use Rattle.store.proofs.Laws.{length-rows}
-use Rattle.rope.specs.declared.find.Offset.{Offset}
-use Rattle.rope.specs.declared.find.Offset.TheVariants as Off
+use Rattle.rope.specs.Maybe.{Offset}
+use Rattle.std.specs.Prelude.{Some, None}
 use Rattle.units.specs.Lists.{every}
 use Rattle.units.specs.Place.{mem_id}
 use Rattle.rope.specs.Spans.{offset_of, is_at, covered, AllOk, Stored}
@@ -58,8 +58,8 @@ unit_room s ok i e = go (offset_of s (At i)) refl (sym (covers_units s ok (At i)
     at d h q = ap (λ (z : Id). room z.counter 1) q ∙ (unfold inc_id in room_one s.id.counter d (len_span s) h (span_ok s ok).own)
 
     go : (f : Offset) → offset_of s (At i) ≡ f → is_at (offset_of s (At i)) ≡ true → room i.counter 1 ≡ true
-    go Off.Nothing p q = absurd (true≢false (sym q ∙ ap is_at p))
-    go (Off.At d) p q = let w = unit_off s ok (At i) d p in let z : i ≡ inc_id s.id d = cc in at d w.0 z
+    go None p q = absurd (true≢false (sym q ∙ ap is_at p))
+    go (Some d) p q = let w = unit_off s ok (At i) d p in let z : i ≡ inc_id s.id d = cc in at d w.0 z
 
 list_room : (l : List FugueSpan) → AllOk l → (i : Id) → mem_id (At i) (expand l) ≡ true → room_of i 1 ≡ true
 unfolding AllOk expand

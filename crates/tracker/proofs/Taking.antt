@@ -30,8 +30,8 @@ use Rattle.rope.proofs.Queue.{lt-or}
 use Rattle.history.specs.Edit.{Version, Range, Held}
 use Rattle.history.specs.Checkout.{range, range_on, ranges_of}
 use Rattle.tracker.specs.declared.row.Target.{Target}
-use Rattle.tracker.specs.declared.range.OptTarget.{OptTarget}
-use Rattle.tracker.specs.declared.range.OptTarget.TheVariants.{Nothing, Is}
+use Rattle.tracker.specs.Maybe.{OptTarget}
+use Rattle.std.specs.Prelude.{None as Nothing, Some as Is}
 use Rattle.tracker.specs.declared.range.Taken.{Taken}
 use Rattle.tracker.specs.declared.seen.Step.{Step}
 use Rattle.tracker.specs.Looks.{seen}

@@ -9,8 +9,8 @@ use lib.IntN.{ℤ, pos, negsuc}
 use lib.Signed.{lt_z}
 use lib.ListN.{length, drop, length-drop, drop_of_length-le}
 use lib.Seq.{drop-drop}
-use Rattle.span.specs.declared.status.Counter.{Counter}
-use Rattle.span.specs.declared.status.Counter.TheVariants as Ctr
+use Rattle.span.specs.Maybe.{Counter}
+use Rattle.std.specs.Prelude.{Some, None}
 use Rattle.span.specs.Status.{counter_of}
 use Rattle.units.specs.Lists.{every}
 use Rattle.history.specs.Edit.{Count, Version}
@@ -22,16 +22,16 @@ use Rattle.tracker.proofs.Logs.{length-pairs}
 -- ---------------------------------------------------------------- counts by their sign
 
 abbrev pub num : Counter → ℕ
-num (Ctr.At n) = n
-num Ctr.Negative = 0
+num (Some n) = n
+num None = 0
 
 num_of : (z : ℤ) → num (counter_of z) ≡ number z
 num_of (pos n) = refl
 num_of (negsuc n) = refl
 
 abbrev pub low : Counter → ℕ → Bool
-low (Ctr.At n) c = ltb n c
-low Ctr.Negative c = true
+low (Some n) c = ltb n c
+low None c = true
 
 low_of : (z : ℤ) (c : ℕ) → low (counter_of z) c ≡ lt_z z (pos c)
 low_of (pos n) c = refl

@@ -2,8 +2,9 @@
 use Rattle.std.specs.Prelude.{ℕ, List}
 use Rattle.span.specs.Answer.{answer}
 use Rattle.store.specs.Header.{room}
-use Rattle.rope.specs.declared.query.LenAnswer.{LenAnswer}
-use Rattle.rope.specs.declared.query.LenAnswer.TheVariants as Len
+use Rattle.rope.specs.Maybe.{LenAnswer}
+use Rattle.std.specs.Prelude.{Ok}
+use Rattle.span.specs.Refusal.{refused}
 use Rattle.rope.specs.declared.query.RealAnswer.{RealAnswer}
 use Rattle.rope.specs.declared.query.RealAnswer.TheVariants as Real
 use Rattle.units.specs.Place.{shown}
@@ -18,7 +19,7 @@ ask_number s t e = unless (is_history s t e) 15 (ask_code (room s) (target_room 
 
 -- the visible length of the list as it stands
 unfoldable pub len_asked : List ℕ → List ℕ → List ℕ → LenAnswer
-len_asked s t e = answer Len.Done Len.Refused (ask_number s t e) (shown (on_units (history_in s t e)).list)
+len_asked s t e = answer Ok refused (ask_number s t e) (shown (on_units (history_in s t e)).list)
 
 -- active_real_span_at of it
 unfoldable pub real_asked : List ℕ → List ℕ → List ℕ → ℕ → RealAnswer

@@ -3,7 +3,7 @@ use Rattle.std.specs.Prelude.{ℕ, ◌≤◌, ◌≡◌, true, false, ◌&&◌, 
 use Rattle.span.specs.declared.span.FugueSpan.{FugueSpan}
 use Rattle.span.specs.Units.{expand, join}
 use Rattle.store.specs.Header.{room, spans_of}
-use Rattle.rope.specs.declared.diff.DiffAnswer.{DiffAnswer}
+use Rattle.rope.specs.Maybe.{DiffAnswer}
 use Rattle.units.specs.Limits.{fits}
 use Rattle.units.specs.Store.{well_formed}
 use Rattle.units.specs.Codes.{unless}

@@ -6,8 +6,8 @@ use Rattle.span.specs.declared.span.FugueSpan.{FugueSpan}
 use Rattle.rope.specs.declared.change.Delete.{Delete}
 use Rattle.units.specs.Change.{taken}
 use Rattle.history.specs.Checkout.{ranges_of}
-use Rattle.tracker.specs.declared.range.OptTarget.{OptTarget}
-use Rattle.tracker.specs.declared.range.OptTarget.TheVariants.{Nothing, Is}
+use Rattle.tracker.specs.Maybe.{OptTarget}
+use Rattle.std.specs.Prelude.{None as Nothing, Some as Is}
 use Rattle.tracker.specs.declared.range.Taken.{Taken}
 
 -- n ids from i on

@@ -9,7 +9,7 @@ ghost use Rattle.tracker.specs.Refused.{act_code};
 
 use crate::row::{Does, Pair};
 use span::ids::Id;
-use span::status::{Counter, counter_of};
+use span::status::{counter_of};
 
 // The counters that an edit uses.
 pub fn size_of(act: Does) -> u32
@@ -64,8 +64,8 @@ pub fn counter_is(id: Id, n: u64) -> bool
     ensures { result ≡ eq_z id.counter (pos n) }
 {
     match counter_of(id.counter) {
-        Counter::Negative => false,
-        Counter::At(c) => (c as u64) == n,
+        None => false,
+        Some(c) => (c as u64) == n,
     }
 }
 
@@ -74,8 +74,8 @@ pub fn count_held(k: Pair, most: u64) -> bool
     ensures { result ≡ le_z (pos 1) k.many && le_z k.many (pos most) }
 {
     match counter_of(k.many) {
-        Counter::Negative => false,
-        Counter::At(c) => 1 <= c && (c as u64) <= most,
+        None => false,
+        Some(c) => 1 <= c && (c as u64) <= most,
     }
 }
 

@@ -18,7 +18,7 @@ use crate::measure::{Measure, measure_delta};
 use crate::row::edit_count;
 use crate::seen::count_seen;
 use crate::stand::stand;
-use rope::diff::{DiffAnswer, diff_rows, shortest};
+use rope::diff::{diff_rows, shortest};
 use store::header;
 use store::limits::PEERS;
 
@@ -140,7 +140,7 @@ pub fn write_delta(
     peer: &mut [u64],
     counter: &mut [u32],
     lamport: &mut [u32],
-) -> DiffAnswer
+) -> Result<usize, Refusal>
     requires { Between n k m s.old h e.now t.now ka a.now kb b.now }
     ensures { WrittenIn (one_of h e.now t.now ka a.now (spans_of s.old)) s.old s.new × Diffed (diff_rows_code (least (length kind.old) (length x.old) (length y.old) (length peer.old) (length counter.old) (length lamport.old)) (both_of h e.now t.now ka a.now kb b.now (spans_of s.old))) (both_of h e.now t.now ka a.now kb b.now (spans_of s.old)) result kind.old x.old y.old peer.old counter.old lamport.old kind.new x.new y.new peer.new counter.new lamport.new }
 {
@@ -165,7 +165,7 @@ pub fn delta_to(
     peer: &mut [u64],
     counter: &mut [u32],
     lamport: &mut [u32],
-) -> DiffAnswer
+) -> Result<usize, Refusal>
     requires { (is_history s.old t.now e.now ≡ true) × (192 ≤ length a.now) × (192 ≤ length b.now) }
     ensures { Deltas s.old t.now e.now (version_in ka a.now) (version_in kb b.now) (least (length kind.old) (length x.old) (length y.old) (length peer.old) (length counter.old) (length lamport.old)) result s.new kind.old x.old y.old peer.old counter.old lamport.old kind.new x.new y.new peer.new counter.new lamport.new }
 {
@@ -180,7 +180,7 @@ pub fn delta_to(
     let to = make_ready(s, t, e, a, ka, b, kb, most);
     let code = to.code;
     if code != 0 {
-        return DiffAnswer::Refused(code);
+        return Err(code);
     }
     write_delta(
         s,
@@ -218,11 +218,11 @@ pub fn delta(
     peer: &mut [u64],
     counter: &mut [u32],
     lamport: &mut [u32],
-) -> DiffAnswer
+) -> Result<usize, Refusal>
     ensures { Deltas s.old t.now e.now (version_of from_peers.now from_counts.now) (version_of to_peers.now to_counts.now) (least (length kind.old) (length x.old) (length y.old) (length peer.old) (length counter.old) (length lamport.old)) result s.new kind.old x.old y.old peer.old counter.old lamport.old kind.new x.new y.new peer.new counter.new lamport.new }
 {
     if !check(s, t, e) {
-        return DiffAnswer::Refused(15);
+        return Err(15);
     }
     let mut a = [0u8; 192];
     let ka = put_version(&mut a, from_peers, from_counts);

@@ -3,18 +3,18 @@ ghost use Rattle.std.specs.Prelude.{◌≡◌};
 ghost use Rattle.tracker.specs.Asks.{len_asked, real_asked};
 
 use crate::check::check;
-use rope::query::{LenAnswer, RealAnswer, real_at};
+use rope::query::{RealAnswer, real_at};
 use rope::seek::visible;
 use store::header;
 
-pub fn visible_len(s: &[u8], t: &[u8], e: &[u8]) -> LenAnswer
+pub fn visible_len(s: &[u8], t: &[u8], e: &[u8]) -> Result<usize, Refusal>
     ensures { result ≡ len_asked s.now t.now e.now }
 {
     if !check(s, t, e) {
-        return LenAnswer::Refused(15);
+        return Err(15);
     }
     let n = header::count(s) as usize;
-    LenAnswer::Done(visible(&s[72..], n))
+    Ok(visible(&s[72..], n))
 }
 
 pub fn active_real_span_at(s: &[u8], t: &[u8], e: &[u8], pos: u32) -> RealAnswer

@@ -10,18 +10,11 @@ use rope::change::Part;
 use span::ids::Id;
 use span::span::FugueSpan;
 
-// A range, or none yet.
-#[derive(Clone, Copy)]
-pub enum OptTarget {
-    Nothing,
-    Is(Target),
-}
-
 // The ranges taken so far: how many before the last one, and the last one.
 #[derive(Clone, Copy)]
 pub struct Taken {
     pub before: usize,
-    pub last: OptTarget,
+    pub last: Option<Target>,
 }
 
 // Whether an id is the next one after a range. Only for callers that know that the range's end is a counter.
@@ -43,11 +36,11 @@ impl Taken {
         let before = self.before;
         let last = self.last;
         match last {
-            OptTarget::Nothing => Taken {
+            None => Taken {
                 before: before,
-                last: OptTarget::Is(next),
+                last: Some(next),
             },
-            OptTarget::Is(t) => {
+            Some(t) => {
                 let id = next.id;
                 let first = t.id;
                 if follows(t, id) {
@@ -57,12 +50,12 @@ impl Taken {
                     };
                     Taken {
                         before: before,
-                        last: OptTarget::Is(both),
+                        last: Some(both),
                     }
                 } else {
                     Taken {
                         before: before + 1,
-                        last: OptTarget::Is(next),
+                        last: Some(next),
                     }
                 }
             }
@@ -93,8 +86,8 @@ impl Taken {
     {
         let last = self.last;
         match last {
-            OptTarget::Nothing => self.before,
-            OptTarget::Is(_) => self.before + 1,
+            None => self.before,
+            Some(_) => self.before + 1,
         }
     }
 }

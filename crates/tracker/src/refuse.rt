@@ -18,7 +18,7 @@ use rope::check::units;
 use rope::place::len_of;
 use span::chunk::RichtextChunk;
 use span::ids::Id;
-use span::span::{FugueSpan, SpanAnswer};
+use span::span::{FugueSpan};
 use store::limits::{EDITS, UNITS};
 
 // Whether the list at a version fits the room, and again with an insert. A list has no more rows than units: with room for these nothing is counted.
@@ -176,8 +176,8 @@ pub fn refuse_new(
     ensures { result ≡ insert_rest most h (units_seen n s.now h e.now t.now m v.now) at (new_span id lamport content) }
 {
     match FugueSpan::new(id, lamport, content) {
-        SpanAnswer::Refused(code) => code,
-        SpanAnswer::Done(x) => refuse_insert(s, n, e, h, t, v, m, at, x, most),
+        Err(code) => code,
+        Ok(x) => refuse_insert(s, n, e, h, t, v, m, at, x, most),
     }
 }
 

@@ -14,10 +14,10 @@ ghost use Rattle.tracker.specs.Made.{makes, made_in, FineAct, AllFine, all_made,
 
 use crate::row::{Does, Head, get_head};
 use rope::check::units;
-use rope::find::{Offset, offset_of};
+use rope::find::{offset_of};
 use span::chunk::RichtextChunk;
 use span::ids::{Id, UNKNOWN_PEER};
-use span::span::{FugueSpan, SpanAnswer};
+use span::span::{FugueSpan};
 use store::limits::UNITS;
 
 // Whether two units have one real id, which is free for the placeholder's.
@@ -80,8 +80,8 @@ fn reach(row: FugueSpan, k: u32, x: FugueSpan) -> u32
     let u = unit(row, k);
     let id = u.id;
     match offset_of(x, Some(id)) {
-        Offset::Nothing => 0,
-        Offset::At(d) => {
+        None => 0,
+        Some(d) => {
             if same_unit(u, unit(x, d)) {
                 least(row.rle_len() - k, x.rle_len() - d)
             } else {
@@ -97,8 +97,8 @@ fn reach_new(row: FugueSpan, k: u32, id: Id, lamport: u32, c: RichtextChunk) -> 
     ensures { Meets row k (units_of (new_span id lamport c)) result }
 {
     match FugueSpan::new(id, lamport, c) {
-        SpanAnswer::Done(x) => reach(row, k, x),
-        SpanAnswer::Refused(_) => 0,
+        Ok(x) => reach(row, k, x),
+        Err(_) => 0,
     }
 }
 

@@ -15,7 +15,7 @@ ghost use Rattle.tracker.specs.Takes.{ids_taken};
 ghost use Rattle.tracker.specs.Ahead.{Place, Next};
 
 use crate::look::status_run;
-use crate::range::{OptTarget, Taken};
+use crate::range::{Taken};
 use rope::apply::{keep_last, push_row};
 use rope::change::{Change, Delete, with_state};
 use rope::seek::active_of;
@@ -259,7 +259,7 @@ pub fn count_targets(
     let mut left = d;
     let mut ranges = Taken {
         before: 0,
-        last: OptTarget::Nothing,
+        last: None,
     };
     while i < n {
         let step = next_piece(s, n, i, from, e, h, t, a, ka, a, ka, false);

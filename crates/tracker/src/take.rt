@@ -16,7 +16,7 @@ use rope::delete::write_delete;
 use rope::edit::insert_span;
 use span::chunk::RichtextChunk;
 use span::ids::Id;
-use span::span::{FugueSpan, SpanAnswer};
+use span::span::{FugueSpan};
 use store::header;
 
 // An insert that was not refused.
@@ -25,8 +25,8 @@ pub fn take_insert(s: &mut [u8], at: u32, id: Id, lamport: u32, content: Richtex
     ensures { WrittenIn (insert_list s.old at (new_span id lamport content)) s.old s.new }
 {
     match FugueSpan::new(id, lamport, content) {
-        SpanAnswer::Refused(_) => {}
-        SpanAnswer::Done(x) => {
+        Err(_) => {}
+        Ok(x) => {
             insert_span(s, at, x);
         }
     }

@@ -13,7 +13,7 @@ ghost use Rattle.tracker.specs.Rows.{to_act, to_range, ranges, took_in, edit_in,
 ghost use Rattle.tracker.specs.Follow.{ids_in, ids_of, in_order, runs_into, well_ranges, took_fits, Walks};
 
 use crate::row::{Does, Target, get_head, get_target, get_took};
-use rope::find::{Offset, offset_of};
+use rope::find::{offset_of};
 use span::span::FugueSpan;
 
 // How many ids of a range are found, and how many units of a row are passed.
@@ -31,11 +31,11 @@ fn walk(row: FugueSpan, k: u32, r: Target, o: u32) -> Walked
     let x = r.id.inc(o);
     let n = row.rle_len();
     match offset_of(row, Some(x)) {
-        Offset::Nothing => Walked {
+        None => Walked {
             found: o,
             passed: n,
         },
-        Offset::At(d) => {
+        Some(d) => {
             if d < k {
                 Walked {
                     found: o,

@@ -6,15 +6,15 @@ ghost use Rattle.tracker.specs.Rows.{pairs};
 
 use crate::row::{Pair, get_pair};
 use span::ids::{Id, UNKNOWN_PEER};
-use span::status::{Counter, counter_of};
+use span::status::{counter_of};
 
 // A pair's count as a number; below zero it is none.
 pub fn number_of(k: Pair) -> u32
     ensures { result ≡ number k.many }
 {
     match counter_of(k.many) {
-        Counter::Negative => 0,
-        Counter::At(n) => n,
+        None => 0,
+        Some(n) => n,
     }
 }
 
@@ -39,8 +39,8 @@ fn counter_below(id: Id, count: u32) -> bool
     ensures { result ≡ lt_z id.counter (pos count) }
 {
     match counter_of(id.counter) {
-        Counter::Negative => true,
-        Counter::At(c) => c < count,
+        None => true,
+        Some(c) => c < count,
     }
 }
 

@@ -11,8 +11,8 @@ use Rattle.span.specs.Chunk.{len_of, joins, merged_chunk}
 use Rattle.span.specs.Ids.{UNKNOWN_PEER, inc_id, same_id}
 use Rattle.span.specs.Span.{len_span, active_len, real_of, diff_of}
 -- an entry: Retain, Delete or Insert, the last with a lamport or none
-pub use Rattle.units.specs.declared.diff.OptLamport.{OptLamport}
-pub use Rattle.units.specs.declared.diff.OptLamport.TheVariants.{Nothing, At}
+pub use Rattle.units.specs.Maybe.{OptLamport}
+pub use Rattle.std.specs.Prelude.{None as Nothing, Some as At}
 pub use Rattle.units.specs.declared.diff.Entry.{Entry}
 pub use Rattle.units.specs.declared.diff.Entry.TheVariants.{Retain, Delete, Insert}
 

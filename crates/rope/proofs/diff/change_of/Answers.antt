@@ -1,7 +1,7 @@
 use Prim.Native.Nat.{ℕ}
 use mathlib.Core.Path.{sym, ap, ◌∙◌}
 use Rattle.span.specs.declared.span.DiffStatus.TheVariants.{NotChanged, Created, Deleted}
-use Rattle.rope.specs.declared.diff.Change.TheVariants.{Is}
+use Rattle.std.specs.Prelude.{Some as Is}
 use Rattle.units.specs.declared.diff.Entry.TheVariants.{Delete}
 use Rattle.rope.proofs.Diffs.{change_by_lem}
 use Rattle.rope.proofs.diff.change_of.Goals as goal

@@ -1,5 +1,6 @@
 use Rattle.span.proofs.AnswerLaws.{is_done, is_refused}
-use Rattle.span.specs.declared.chunk.ChunkAnswer.TheVariants.{Done, Refused}
+use Rattle.std.specs.Prelude.{Ok as Done}
+use Rattle.span.specs.Refusal.{refused as Refused}
 use Rattle.span.proofs.chunk.RichtextChunk.merge_right.Goals as goal
 
 pub returns-then-code-eq0 : goal.returns-then-code-eq0

@@ -1,4 +1,5 @@
-use Rattle.span.specs.declared.span.SpanAnswer.TheVariants.{Done, Refused}
+use Rattle.std.specs.Prelude.{Ok as Done}
+use Rattle.span.specs.Refusal.{refused as Refused}
 use Rattle.span.proofs.AnswerLaws.{is_done, is_refused}
 use Rattle.span.proofs.span.FugueSpan.merge_right.Goals as goal
 
