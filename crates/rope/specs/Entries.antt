@@ -5,11 +5,10 @@ use Rattle.span.specs.Answer.{answer}
 use Rattle.span.specs.Units.{expand}
 use Rattle.store.specs.Row.{row_bytes}
 use Rattle.store.specs.Header.{header_bytes}
-use Rattle.rope.specs.Maybe.{LenAnswer}
-use Rattle.std.specs.Prelude.{Ok}
-use Rattle.span.specs.Refusal.{refused}
-use Rattle.rope.specs.declared.query.RealAnswer.{RealAnswer}
-use Rattle.rope.specs.declared.query.RealAnswer.TheVariants as Real
+use Rattle.rope.specs.Maybe.{LenAnswer, RealAnswer}
+use Rattle.std.specs.Prelude.{Option, Some, None, Ok, Err}
+use Rattle.span.specs.declared.ids.Id.{Id}
+use Rattle.span.specs.Refusal.{number_of, refused}
 use Rattle.units.specs.Place.{shown}
 use Rattle.units.specs.Store.{room, spans_of, state_code}
 use Rattle.units.specs.Query.{RealSpan, Nothing, At, real_span_at, placeholder}
@@ -38,19 +37,21 @@ unfoldable pub len_answer : List ℕ → LenAnswer
 len_answer s = answer Ok refused (state_code s) (shown (expand (spans_of s)))
 
 -- active_real_span_at
-abbrev pub real_said : RealSpan → RealAnswer
-real_said Nothing = Real.Nothing
-real_said (At i k) = Real.At i k
+abbrev pub real_said : RealSpan → Option (Id × ℕ)
+real_said Nothing = None
+real_said (At i k) = Some (i, k)
+
+abbrev pub real_done : RealSpan → RealAnswer
+real_done r = Ok (real_said r)
 
 unfoldable pub real_answer : List ℕ → ℕ → RealAnswer
-real_answer s at = answer real_said Real.Refused (state_code s) (real_span_at (spans_of s) at)
+real_answer s at = answer real_done refused (state_code s) (real_span_at (spans_of s) at)
 
 -- 01's number of an answer: 0 is done
 abbrev pub len_number : LenAnswer → ℕ
 len_number (Ok n) = 0
-len_number (refused k) = k
+len_number (Err e) = number_of e
 
 abbrev pub real_number : RealAnswer → ℕ
-real_number Real.Nothing = 0
-real_number (Real.At i k) = 0
-real_number (Real.Refused k) = k
+real_number (Ok r) = 0
+real_number (Err e) = number_of e

@@ -8,6 +8,7 @@ ghost use Rattle.units.specs.Store.{touching, joined_rows, named, origins_named,
 use crate::find::{has, holds};
 use crate::order::{order, origins_sorted, twice};
 use crate::place::len_of;
+use span::ids::Id;
 use span::span::FugueSpan;
 use store::limits::UNITS;
 
@@ -16,12 +17,10 @@ pub fn distinct(s: &[u8], n: usize) -> bool
     requires { n * 72 ≤ length s.now }
     ensures { result ≡ apart_rows [] (rows n s.now) }
 {
-    let mut i = 0;
-    while i < n {
+    for i in 0..n {
         if holds(s, i, store::get_row(s, i)) {
             return false;
         }
-        i += 1;
     }
     true
 }
@@ -31,11 +30,7 @@ pub fn touches(s: &[u8], n: usize, i: usize, row: FugueSpan) -> bool
     requires { (n * 72 ≤ length s.now) × (i < n) }
     ensures { result ≡ touching row (drop (i + 1) (rows n s.now)) }
 {
-    if i + 1 < n {
-        row.can_merge(store::get_row(s, i + 1))
-    } else {
-        false
-    }
+    i + 1 < n && row.can_merge(store::get_row(s, i + 1))
 }
 
 // Whether each span is well formed and no two neighbours join (of refusal 15).
@@ -43,16 +38,11 @@ pub fn joined(s: &[u8], n: usize) -> bool
     requires { n * 72 ≤ length s.now }
     ensures { result ≡ joined_rows (rows n s.now) }
 {
-    let mut i = 0;
-    while i < n {
+    for i in 0..n {
         let row = store::get_row(s, i);
-        if row.check() != 0 {
+        if row.check().is_err() || touches(s, n, i, row) {
             return false;
         }
-        if touches(s, n, i, row) {
-            return false;
-        }
-        i += 1;
     }
     true
 }
@@ -62,11 +52,9 @@ pub fn units(s: &[u8], n: usize) -> usize
     requires { (n * 72 ≤ length s.now) × (n ≤ 65536) }
     ensures { result ≡ length (expand (rows n s.now)) }
 {
-    let mut i = 0;
     let mut sum = 0;
-    while i < n {
+    for i in 0..n {
         sum += len_of(store::get_row(s, i));
-        i += 1;
     }
     sum
 }
@@ -76,10 +64,7 @@ pub fn is_named(s: &[u8], n: usize, o: Option<Id>) -> bool
     requires { (n * 72 ≤ length s.now) × AllOk (rows n s.now) }
     ensures { result ≡ named o (expand (rows n s.now)) }
 {
-    match o {
-        None => true,
-        Some(_) => has(s, n, o),
-    }
+    o.is_none() || has(s, n, o)
 }
 
 // Whether every origin is.
@@ -87,18 +72,11 @@ pub fn origins(s: &[u8], n: usize) -> bool
     requires { (n * 72 ≤ length s.now) × AllOk (rows n s.now) }
     ensures { result ≡ origins_named (rows n s.now) (expand (rows n s.now)) }
 {
-    let mut i = 0;
-    while i < n {
+    for i in 0..n {
         let row = store::get_row(s, i);
-        let left = row.origin_left;
-        let right = row.origin_right;
-        if !is_named(s, n, left) {
+        if !is_named(s, n, row.origin_left) || !is_named(s, n, row.origin_right) {
             return false;
         }
-        if !is_named(s, n, right) {
-            return false;
-        }
-        i += 1;
     }
     true
 }
@@ -108,10 +86,7 @@ fn plain(s: &[u8], n: usize) -> bool
     requires { (n * 72 ≤ length s.now) × AllOk (rows n s.now) }
     ensures { result ≡ (apart_rows [] (rows n s.now) && origins_named (rows n s.now) (expand (rows n s.now))) }
 {
-    if !distinct(s, n) {
-        return false;
-    }
-    origins(s, n)
+    distinct(s, n) && origins(s, n)
 }
 
 // The same by the order of the ids, in n log n. The plain form answers where the sort gave no order and no clash: that it always gives one is
@@ -136,10 +111,7 @@ pub fn well_formed(s: &[u8], n: usize) -> bool
     requires { (n * 72 ≤ length s.now) × (n ≤ 65536) }
     ensures { result ≡ well_formed (rows n s.now) }
 {
-    if !joined(s, n) {
-        return false;
-    }
-    if UNITS < units(s, n) {
+    if !joined(s, n) || UNITS < units(s, n) {
         return false;
     }
     if n < 128 { plain(s, n) } else { ordered(s, n) }

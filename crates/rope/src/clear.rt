@@ -8,24 +8,13 @@ ghost use Rattle.rope.specs.Spans.{AllOk, clear_span};
 use crate::stream::push;
 use span::span::FugueSpan;
 
+// A span without its diff_status.
 pub fn cleared(row: FugueSpan) -> FugueSpan
     ensures { result ≡ clear_span row }
 {
-    let id = row.id;
-    let real = row.real_id;
-    let status = row.status;
-    let left = row.origin_left;
-    let right = row.origin_right;
-    let content = row.content;
     FugueSpan {
-        id: id,
-        lamport: row.lamport,
-        real_id: real,
-        status: status,
         diff_status: None,
-        origin_left: left,
-        origin_right: right,
-        content: content,
+        ..row
     }
 }
 
@@ -35,11 +24,9 @@ pub fn clear_rows(s: &mut [u8], n: usize) -> usize
     ensures { (rows result s.new ≡ join (clear_units (expand (rows n s.old)))) × (result ≤ n) }
 {
     let mut w = 0;
-    let mut i = 0;
-    while i < n {
+    for i in 0..n {
         let row = store::get_row(s, i);
         w = push(s, w, cleared(row));
-        i += 1;
     }
     w
 }

@@ -10,7 +10,7 @@ ghost use Rattle.rope.specs.Pieces.{part_of, changed_of, pieces_of};
 ghost use Rattle.rope.specs.Spans.{AllOk};
 ghost use Rattle.rope.specs.Exact.{uncounted_diff, bare, exact_of, joins_exact, follows, step_of, tail_of};
 
-use crate::change::{Update, with_state};
+use crate::change::Update;
 use span::span::FugueSpan;
 use span::status::Status;
 
@@ -32,7 +32,7 @@ pub struct Tail {
 pub fn sum(a: i16, b: i16) -> i32
     ensures { result ≡ a +ℤ b }
 {
-    (a as i32) + (b as i32)
+    i32::from(a) + i32::from(b)
 }
 
 // A diff_status with a count of 0.
@@ -41,9 +41,9 @@ pub fn uncounted(diff: Option<Status>) -> Option<Status>
 {
     match diff {
         None => None,
-        Some(d) => Some(Status {
-            future: d.future,
+        Some(status) => Some(Status {
             delete_times: 0,
+            ..status
         }),
     }
 }
@@ -52,17 +52,19 @@ pub fn uncounted(diff: Option<Status>) -> Option<Status>
 pub fn bare(diff: bool, x: FugueSpan) -> FugueSpan
     ensures { result ≡ bare diff x }
 {
-    let status = x.status;
-    let other = x.diff_status;
-    let real = x.real_id;
     if diff {
-        with_state(x, status, uncounted(other), real)
+        FugueSpan {
+            diff_status: uncounted(x.diff_status),
+            ..x
+        }
     } else {
-        let new = Status {
-            future: status.future,
-            delete_times: 0,
-        };
-        with_state(x, new, other, real)
+        FugueSpan {
+            status: Status {
+                delete_times: 0,
+                ..x.status
+            },
+            ..x
+        }
     }
 }
 
@@ -70,19 +72,17 @@ pub fn bare(diff: bool, x: FugueSpan) -> FugueSpan
 pub fn changed_bare(u: Update, piece: FugueSpan) -> FugueSpan
     ensures { result ≡ bare u.diff (update_unit u.set u.change u.diff piece) }
 {
-    let status = piece.status;
-    let diff = piece.diff_status;
-    let real = piece.real_id;
-    let base = u.base(piece);
-    let set = u.set;
-    let new = Status {
-        future: set.apply(base.future),
+    let status = Status {
+        future: u.set.apply(u.base(piece).future),
         delete_times: 0,
     };
     if u.diff {
-        with_state(piece, status, Some(new), real)
+        FugueSpan {
+            diff_status: Some(status),
+            ..piece
+        }
     } else {
-        with_state(piece, new, diff, real)
+        FugueSpan { status, ..piece }
     }
 }
 
@@ -90,12 +90,9 @@ pub fn changed_bare(u: Update, piece: FugueSpan) -> FugueSpan
 pub fn kept_piece(u: Update, piece: FugueSpan) -> Exact
     ensures { result ≡ exact_of u.diff piece }
 {
-    let base = u.base(piece);
-    let times = sum(base.delete_times, 0);
-    let rest = bare(u.diff, piece);
     Exact {
-        times: times,
-        rest: rest,
+        times: i32::from(u.base(piece).delete_times),
+        rest: bare(u.diff, piece),
     }
 }
 
@@ -103,12 +100,9 @@ pub fn kept_piece(u: Update, piece: FugueSpan) -> Exact
 pub fn changed_piece(u: Update, piece: FugueSpan) -> Exact
     ensures { result ≡ exact_of u.diff (update_unit u.set u.change u.diff piece) }
 {
-    let base = u.base(piece);
-    let times = sum(base.delete_times, u.change);
-    let rest = changed_bare(u, piece);
     Exact {
-        times: times,
-        rest: rest,
+        times: sum(u.base(piece).delete_times, u.change),
+        rest: changed_bare(u, piece),
     }
 }
 
@@ -117,8 +111,7 @@ impl Exact {
     pub fn joins(self, other: Self) -> bool
         ensures { result ≡ joins_exact self other }
     {
-        let rest = self.rest;
-        self.times == other.times && rest.can_merge(other.rest)
+        self.times == other.times && self.rest.can_merge(other.rest)
     }
 }
 
@@ -127,8 +120,7 @@ impl Tail {
     pub fn follows(self, x: Exact) -> bool
         ensures { result ≡ follows self x }
     {
-        let last = self.last;
-        0 < self.rows && last.joins(x)
+        0 < self.rows && self.last.joins(x)
     }
 
     // One more piece. (The number has room for it, as a list has at most 65,536 rows, of at most three pieces each.)
@@ -136,17 +128,12 @@ impl Tail {
         requires { self.rows ≤ 4294967295 }
         ensures { result ≡ step_of self x }
     {
-        if self.follows(x) {
-            Tail {
-                rows: self.rows,
-                last: x,
-            }
+        let rows = if self.follows(x) {
+            self.rows
         } else {
-            Tail {
-                rows: self.rows + 1,
-                last: x,
-            }
-        }
+            self.rows + 1
+        };
+        Tail { rows, last: x }
     }
 
     // The units from..to of a row, if there are any. (The row is well formed, which the entries asked.)
@@ -179,9 +166,9 @@ impl Tail {
         ensures { result ≡ tail_of u.diff self (pieces_of (Ch.Update u) row) }
     {
         let cut = u.cut(row);
-        let a = self.part(u, row, 0, cut.from);
-        let b = a.changed(u, row, cut.from, cut.to);
-        b.part(u, row, cut.to, row.rle_len())
+        let before = self.part(u, row, 0, cut.from);
+        let changed = before.changed(u, row, cut.from, cut.to);
+        changed.part(u, row, cut.to, row.rle_len())
     }
 }
 
@@ -197,10 +184,8 @@ pub fn rows_after(s: &[u8], n: usize, u: Update) -> usize
         rows: 0,
         last: kept_piece(u, store::get_row(s, 0)),
     };
-    let mut i = 0;
-    while i < n {
+    for i in 0..n {
         t = t.row(u, store::get_row(s, i));
-        i += 1;
     }
     t.rows
 }

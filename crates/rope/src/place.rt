@@ -7,6 +7,7 @@ ghost use Rattle.units.specs.Place.{first_past, pr_pos, sibling, verdict};
 ghost use Rattle.rope.specs.Spans.{right_in, run_s, AllOk, Held, place_s};
 
 use crate::find::{covers, offset_of};
+use span::ids::Id;
 use span::span::FugueSpan;
 use units::place::{Verdict, by_pos};
 
@@ -23,15 +24,13 @@ pub fn right_in(row: FugueSpan, x: Option<Id>, o: Option<Id>) -> Right
     requires { span_code row ≡ 0 }
     ensures { result ≡ right_in row x o }
 {
-    match offset_of(row, o) {
-        None => Right::Absent,
-        Some(k) => {
-            if row.left_at(k).same(x) {
-                Right::Here(k as usize)
-            } else {
-                Right::Other
-            }
-        }
+    let Some(k) = offset_of(row, o) else {
+        return Right::Absent;
+    };
+    if row.left_at(k) == x {
+        Right::Here(k as usize)
+    } else {
+        Right::Other
     }
 }
 
@@ -46,9 +45,8 @@ pub fn parent_pos(all: &[u8], n: usize, units: usize, x: Option<Id>, o: Option<I
     requires { Held n units all.now }
     ensures { result ≡ pr_pos (expand (rows n all.now)) x o }
 {
-    let mut i = 0;
     let mut base = 0;
-    while i < n {
+    for i in 0..n {
         let row = store::get_row(all, i);
         match right_in(row, x, o) {
             Right::Here(k) => return base + k,
@@ -56,7 +54,6 @@ pub fn parent_pos(all: &[u8], n: usize, units: usize, x: Option<Id>, o: Option<I
             Right::Absent => {}
         }
         base += len_of(row);
-        i += 1;
     }
     units
 }
@@ -74,18 +71,15 @@ pub fn judge(
     requires { Held n units all.now }
     ensures { result ≡ sibling (expand (rows n all.now)) o m q row }
 {
-    let left = row.origin_left;
-    let right = row.origin_right;
-    if right.same(o) {
-        if q < row.id.peer {
+    if row.origin_right == o {
+        return if q < row.id.peer {
             Verdict::Stop
         } else {
             Verdict::Clear
-        }
-    } else {
-        let p = parent_pos(all, n, units, left, right);
-        by_pos(p, m, q, row.id.peer)
+        };
     }
+    let p = parent_pos(all, n, units, row.origin_left, row.origin_right);
+    by_pos(p, m, q, row.id.peer)
 }
 
 pub fn moved(holding: bool, place: usize, next: usize) -> usize
@@ -115,12 +109,11 @@ pub fn scan(
     let mut i = 0;
     'scan: while i < k {
         let row = store::get_row(part, i);
-        let status = row.status;
-        if !status.future {
+        if !row.status.future {
             break 'scan;
         }
         let left = row.origin_left;
-        if left.same(x) {
+        if left == x {
             let v = judge(all, n, units, row, o, m, q);
             if v.is_stop() {
                 break 'scan;
@@ -151,15 +144,11 @@ pub fn first_past(s: &[u8], k: usize) -> Option<Id>
     requires { (k * 72 ≤ length s.now) × AllOk (rows k s.now) }
     ensures { result ≡ first_past (expand (rows k s.now)) }
 {
-    let mut i = 0;
-    while i < k {
+    for i in 0..k {
         let row = store::get_row(s, i);
-        let status = row.status;
-        let id = row.id;
-        if !status.future {
-            return Some(id);
+        if !row.status.future {
+            return Some(row.id);
         }
-        i += 1;
     }
     None
 }
@@ -169,16 +158,22 @@ pub fn right_from(s: &[u8], n: usize, at: usize) -> Option<Id>
     requires { (n * 72 ≤ length s.now) × AllOk (rows n s.now) × (at ≤ n) }
     ensures { result ≡ first_past (expand (drop at (rows n s.now))) }
 {
-    let from = at * 72;
-    first_past(&s[from..], n - at)
+    first_past(&s[at * 72..], n - at)
 }
 
 // The scan from a cursor before row `at`: the rows from the cursor on are handed to it as a part.
-pub fn scan_from(s: &[u8], n: usize, units: usize, at: usize, x: Option<Id>, o: Option<Id>, q: u64) -> usize
+pub fn scan_from(
+    s: &[u8],
+    n: usize,
+    units: usize,
+    at: usize,
+    x: Option<Id>,
+    o: Option<Id>,
+    q: u64,
+) -> usize
     requires { Held n units s.now × (at ≤ n) }
     ensures { result ≡ place_s (rows n s.now) at x o q }
 {
     let m = parent_pos(s, n, units, x, o);
-    let from = at * 72;
-    scan(&s[from..], n - at, s, n, units, x, o, m, q)
+    scan(&s[at * 72..], n - at, s, n, units, x, o, m, q)
 }

@@ -14,7 +14,7 @@ use span::span::FugueSpan;
 pub fn some(from: u32, to: u32) -> usize
     ensures { result ≡ min 1 (to - from) }
 {
-    if from < to { 1 } else { 0 }
+    usize::from(from < to)
 }
 
 // How many rows a delete touches.
@@ -23,14 +23,12 @@ pub fn touched_len(s: &[u8], n: usize, d: Delete) -> usize
     ensures { result ≡ length (touched (rows n s.now) d.at d.len) }
 {
     let mut left = d;
-    let mut i = 0;
     let mut k = 0;
-    while i < n {
+    for i in 0..n {
         let row = store::get_row(s, i);
         let part = left.cut(row);
         k += some(part.from, part.to);
         left = left.after(row);
-        i += 1;
     }
     k
 }
@@ -54,14 +52,12 @@ pub fn report_rows(s: &[u8], n: usize, out: &mut [u8], d: Delete) -> usize
     ensures { Listed (touched (rows n s.now) d.at d.len) result out.old out.new }
 {
     let mut left = d;
-    let mut i = 0;
     let mut k = 0;
-    while i < n {
+    for i in 0..n {
         let row = store::get_row(s, i);
         let part = left.cut(row);
         k = put_part(out, k, row, part.from, part.to);
         left = left.after(row);
-        i += 1;
     }
     k
 }
@@ -71,12 +67,10 @@ pub fn put_units(out: &mut [u8], top: usize, row: FugueSpan, from: u32, to: u32)
     requires { (span_code row ≡ 0) × (from ≤ to) × (to ≤ len_span row) × (to - from ≤ top) × (top * 72 ≤ length out.old) }
     ensures { PutUnits top row from to out.old out.new }
 {
-    let mut u = from;
     let mut t = top;
-    while u < to {
+    for u in from..to {
         t -= 1;
         store::put_row(out, t, row.piece(u, u + 1));
-        u += 1;
     }
 }
 
@@ -86,13 +80,11 @@ pub fn report_units(s: &[u8], n: usize, out: &mut [u8], d: Delete) -> usize
     ensures { Listed (reverse (expand (touched (rows n s.now) d.at d.len))) result out.old out.new }
 {
     let mut left = d;
-    let mut i = 0;
-    while i < n {
+    for i in 0..n {
         let row = store::get_row(s, i);
         let part = left.cut(row);
         put_units(out, left.len as usize, row, part.from, part.to);
         left = left.after(row);
-        i += 1;
     }
     d.len as usize
 }
@@ -102,12 +94,8 @@ pub fn removed_len(s: &[u8], n: usize, d: Delete, reversed: bool) -> usize
     requires { Report d n s.now }
     ensures { result ≡ length (pieces (rows n s.now) d.at d.len reversed) }
 {
-    if reversed {
-        if 1 < d.len {
-            d.len as usize
-        } else {
-            touched_len(s, n, d)
-        }
+    if reversed && 1 < d.len {
+        d.len as usize
     } else {
         touched_len(s, n, d)
     }
@@ -118,12 +106,8 @@ pub fn report(s: &[u8], n: usize, out: &mut [u8], d: Delete, reversed: bool) -> 
     requires { Report d n s.now × (length (pieces (rows n s.now) d.at d.len reversed) * 72 ≤ length out.old) }
     ensures { Listed (pieces (rows n s.now) d.at d.len reversed) result out.old out.new }
 {
-    if reversed {
-        if 1 < d.len {
-            report_units(s, n, out, d)
-        } else {
-            report_rows(s, n, out, d)
-        }
+    if reversed && 1 < d.len {
+        report_units(s, n, out, d)
     } else {
         report_rows(s, n, out, d)
     }

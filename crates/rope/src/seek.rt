@@ -20,11 +20,9 @@ pub fn seek(s: &[u8], n: usize, pos: u32) -> Cursor
     requires { n * 72 ≤ length s.now }
     ensures { result ≡ seek_in (rows n s.now) pos 0 }
 {
-    let mut i = 0;
     let mut left = pos;
-    while i < n {
-        let row = store::get_row(s, i);
-        let len = row.activated_len();
+    for i in 0..n {
+        let len = store::get_row(s, i).activated_len();
         if left <= len {
             return Cursor {
                 row: i,
@@ -32,9 +30,8 @@ pub fn seek(s: &[u8], n: usize, pos: u32) -> Cursor
             };
         }
         left -= len;
-        i += 1;
     }
-    Cursor { row: i, offset: 0 }
+    Cursor { row: n, offset: 0 }
 }
 
 // The visible length. A well formed list has few enough units to count.
@@ -42,11 +39,9 @@ pub fn visible(s: &[u8], n: usize) -> usize
     requires { Stored n s.now }
     ensures { result ≡ shown (expand (rows n s.now)) }
 {
-    let mut i = 0;
     let mut sum = 0;
-    while i < n {
+    for i in 0..n {
         sum += active_of(store::get_row(s, i));
-        i += 1;
     }
     sum
 }

@@ -1,5 +1,6 @@
 // A store in lent bytes: opening one, and the check that every entry asks before all else (refusal 15).
 ghost use Rattle.std.specs.Prelude.{◌≡◌};
+ghost use Rattle.span.specs.Refusal.{code_of};
 ghost use Rattle.units.specs.Query.{placeholder};
 ghost use Rattle.units.specs.Store.{is_state};
 ghost use Rattle.rope.specs.Entries.{open_code, open_bytes, open_with_code, open_with_bytes};
@@ -7,6 +8,7 @@ ghost use Rattle.rope.specs.Entries.{open_code, open_bytes, open_with_code, open
 use crate::check::well_formed;
 use span::chunk::RichtextChunk;
 use span::ids::{Id, UNKNOWN_PEER};
+use span::refusal::Refusal;
 use span::span::FugueSpan;
 use span::status::Status;
 use store::header;
@@ -27,15 +29,15 @@ pub fn check(s: &[u8]) -> bool
     well_formed(&s[72..], n as usize)
 }
 
-// Opens an empty store. The answer is 0 or the number of the refusal.
-pub fn open(s: &mut [u8]) -> u8
-    ensures { (result ≡ open_code s.old) × (s.new ≡ open_bytes s.old) }
+// Opens an empty store.
+pub fn open(s: &mut [u8]) -> Result<(), Refusal>
+    ensures { (code_of result ≡ open_code s.old) × (s.new ≡ open_bytes s.old) }
 {
     if s.len() < 72 {
-        return 13;
+        return Err(Refusal::Output);
     }
     header::put_header(s, 0);
-    0
+    Ok(())
 }
 
 // The placeholder: n unknown units of the unknown peer, in every version.
@@ -49,10 +51,7 @@ fn placeholder(n: u32) -> FugueSpan
         },
         lamport: 0,
         real_id: None,
-        status: Status {
-            future: false,
-            delete_times: 0,
-        },
+        status: Status::default(),
         diff_status: None,
         origin_left: None,
         origin_right: None,
@@ -63,20 +62,17 @@ fn placeholder(n: u32) -> FugueSpan
     }
 }
 
-// Opens a store with a placeholder of n units. The answer is 0 or the number of the refusal.
-pub fn open_with(s: &mut [u8], n: u32) -> u8
-    ensures { (result ≡ open_with_code n s.old) × (s.new ≡ open_with_bytes n s.old) }
+// Opens a store with a placeholder of n units.
+pub fn open_with(s: &mut [u8], n: u32) -> Result<(), Refusal>
+    ensures { (code_of result ≡ open_with_code n s.old) × (s.new ≡ open_with_bytes n s.old) }
 {
     if n == 0 {
-        return 1;
+        return Err(Refusal::Chunk);
     }
-    if UNITS < (n as usize) {
-        return 10;
-    }
-    if header::room(s) == 0 {
-        return 10;
+    if UNITS < n as usize || header::room(s) == 0 {
+        return Err(Refusal::Room);
     }
     header::put_header(s, 1);
     store::put_row(s, 1, placeholder(n));
-    0
+    Ok(())
 }

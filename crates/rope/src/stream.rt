@@ -11,15 +11,10 @@ pub fn push(s: &mut [u8], w: usize, y: FugueSpan) -> usize
     if 0 < w {
         let left = store::get_row(s, w - 1);
         if left.can_merge(y) {
-            let both = left.joined(y);
-            store::put_row(s, w - 1, both);
-            w
-        } else {
-            store::put_row(s, w, y);
-            w + 1
+            store::put_row(s, w - 1, left.joined(y));
+            return w;
         }
-    } else {
-        store::put_row(s, w, y);
-        w + 1
     }
+    store::put_row(s, w, y);
+    w + 1
 }
