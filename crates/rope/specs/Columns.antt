@@ -12,11 +12,10 @@ use Rattle.store.specs.Row.{rows, bits32}
 use Rattle.rope.specs.Maybe.{Change}
 use Rattle.std.specs.Prelude.{None as Same, Some as Is}
 use Rattle.rope.specs.declared.diff.Step.{Step}
-use Rattle.rope.specs.declared.diff.Step.TheVariants.{End, Next}
 use Rattle.rope.specs.declared.diff.EntryNumbers.{EntryNumbers}
 use Rattle.rope.specs.Maybe.{DiffAnswer}
-use Rattle.std.specs.Prelude.{Ok}
-use Rattle.span.specs.Refusal.{refused}
+use Rattle.std.specs.Prelude.{Option, Some, None, Ok, Err}
+use Rattle.span.specs.Refusal.{refused, number_of}
 use Rattle.units.specs.Lists.{every, over}
 use Rattle.units.specs.Store.{spans_of, is_state}
 use Rattle.units.specs.Maybe.{OptLamport}
@@ -38,9 +37,12 @@ change_by Deleted s = Is (Delete (len_span s))
 unfoldable pub change_of : FugueSpan → Change
 change_of s = change_by (diff_of s) s
 
+abbrev pub step : Entry → ℕ → ℕ → Step
+step e i gap = record { entry = e; row = i; gap = gap }
+
 -- a change of row i after a gap: a positive gap first
 unfoldable pub step_by : ℕ → ℕ → Entry → Step
-step_by gap i e = if gap == 0 then Next e (i + 1) 0 else Next (Retain gap) i 0
+step_by gap i e = if gap == 0 then step e (i + 1) 0 else step (Retain gap) i 0
 
 -- n rows that are a well formed list, row i among them or just past them, and a gap of units before it
 pub record Ahead (n : ℕ) (s : List ℕ) (i gap : ℕ) : Type 0 where
@@ -54,9 +56,9 @@ pub record NextIs (l : List FugueSpan) (i gap : ℕ) (e : Entry) (j g : ℕ) : T
   pub few : g + length (expand (drop j l)) ≤ gap + length (expand (drop i l))
   pub is : entries_from (drop i l) gap ≡ e ∷ entries_from (drop j l) g
 
-abbrev pub NextOf : List FugueSpan → ℕ → ℕ → Step → Type 0
-NextOf l i gap End = entries_from (drop i l) gap ≡ []
-NextOf l i gap (Next e j g) = NextIs l i gap e j g
+abbrev pub NextOf : List FugueSpan → ℕ → ℕ → Option Step → Type 0
+NextOf l i gap None = entries_from (drop i l) gap ≡ []
+NextOf l i gap (Some x) = NextIs l i gap x.entry x.row x.gap
 
 -- ---------------------------------------------------------------- columns of numbers
 
@@ -132,4 +134,4 @@ pub record Diffed (code : ℕ) (spans : List FugueSpan) (r : DiffAnswer) (k a b 
 -- 01's number of an answer: 0 is done
 abbrev pub diff_number : DiffAnswer → ℕ
 diff_number (Ok n) = 0
-diff_number (refused k) = k
+diff_number (Err e) = number_of e

@@ -67,10 +67,8 @@ pub fn move_all(s: &mut [u8], w: usize, q: &[u8], m: usize)
     requires { ((w + m) * 72 ≤ length s.old) × (m * 72 ≤ length q.now) }
     ensures { rows (w + m) s.new ≡ rows w s.old ++ rows m q.now }
 {
-    let mut j = 0;
-    while j < m {
+    for j in 0..m {
         store::put_row(s, w + j, store::get_row(q, j));
-        j += 1;
     }
 }
 
@@ -81,14 +79,12 @@ pub fn apply_with(s: &mut [u8], q: &mut [u8], n: usize, e: Change) -> usize
     ensures { rows result s.new ≡ join (expand (all_pieces e (rows n s.old))) }
 {
     let mut left = e;
-    let mut i = 0;
     let mut w = 0;
     let mut m = 0;
-    while i < n {
+    for i in 0..n {
         let row = store::get_row(s, i);
         m = push_row(q, m, left, row);
         left = left.after(row);
-        i += 1;
         let k = move_first(s, w, q, m);
         w += k;
         m -= k;
@@ -126,14 +122,12 @@ pub fn count_with(s: &[u8], q: &mut [u8], n: usize, e: Change) -> usize
     ensures { result ≡ length (join (expand (all_pieces e (rows n s.now)))) }
 {
     let mut left = e;
-    let mut i = 0;
     let mut gone = 0;
     let mut m = 0;
-    while i < n {
+    for i in 0..n {
         let row = store::get_row(s, i);
         m = push_row(q, m, left, row);
         left = left.after(row);
-        i += 1;
         let k = keep_last(q, m);
         gone += k;
         m -= k;

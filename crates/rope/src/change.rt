@@ -1,8 +1,8 @@
 // A change of some of a list's units: a delete by visible positions, or an update by ids. What it does to one span, by value.
 // A span has at most three pieces in it: units that stay, units that change, units that stay.
-ghost use Rattle.std.specs.Prelude.{◌≡◌, true, ◌-◌, min, ◌+ℤ◌};
+ghost use Rattle.std.specs.Prelude.{◌≡◌, true, ◌+ℤ◌};
 ghost use Rattle.span.specs.Status.{activated, in_i16};
-ghost use Rattle.units.specs.Change.{with_state, or_real, delete_unit, change_status, diff_or, base_of, update_unit};
+ghost use Rattle.units.specs.Change.{with_state, delete_unit, change_status, base_of, update_unit};
 ghost use Rattle.rope.specs.Pieces.{delete_cut, delete_after, CanDelete, part_at, update_cut, cut_of, after_of, change_span, CanCut, CanChange};
 
 use span::ids::Id;
@@ -37,52 +37,21 @@ pub enum Change {
 }
 
 // The units from..to of a span.
-#[derive(Clone, Copy)]
+#[derive(Clone, Copy, Default)]
 pub struct Part {
     pub from: u32,
     pub to: u32,
-}
-
-pub fn least(a: u32, b: u32) -> u32
-    ensures { result ≡ min a b }
-{
-    if a < b { a } else { b }
-}
-
-// How far a is past b.
-pub fn past(a: u32, b: u32) -> u32
-    ensures { result ≡ a - b }
-{
-    if b < a { a - b } else { 0 }
 }
 
 // A span with other statuses and another real id.
 pub fn with_state(u: FugueSpan, status: Status, diff: Option<Status>, real: Option<Id>) -> FugueSpan
     ensures { result ≡ with_state u status diff real }
 {
-    let id = u.id;
-    let left = u.origin_left;
-    let right = u.origin_right;
-    let content = u.content;
     FugueSpan {
-        id: id,
-        lamport: u.lamport,
         real_id: real,
-        status: status,
+        status,
         diff_status: diff,
-        origin_left: left,
-        origin_right: right,
-        content: content,
-    }
-}
-
-// A real id, or this one if there is none.
-pub fn or_real(real: Option<Id>, i: Id) -> Option<Id>
-    ensures { result ≡ or_real real i }
-{
-    match real {
-        None => Some(i),
-        Some(r) => Some(r),
+        ..u
     }
 }
 
@@ -94,8 +63,8 @@ impl Delete {
     {
         let len = row.activated_len();
         Part {
-            from: least(self.at, len),
-            to: least(self.at + self.len, len),
+            from: self.at.min(len),
+            to: (self.at + self.len).min(len),
         }
     }
 
@@ -105,12 +74,11 @@ impl Delete {
         ensures { result ≡ delete_after self row }
     {
         let part = self.cut(row);
-        let took = past(part.to, part.from);
-        let start = self.start.inc(took);
+        let took = part.to - part.from;
         Delete {
-            at: past(self.at, part.from),
-            len: past(self.len, took),
-            start: start,
+            at: self.at - part.from,
+            len: self.len - took,
+            start: self.start.inc(took),
         }
     }
 
@@ -119,24 +87,15 @@ impl Delete {
         requires { activated piece.status ≡ true }
         ensures { result ≡ delete_unit self.start piece }
     {
-        let diff = piece.diff_status;
-        let real = piece.real_id;
-        let start = self.start;
         let gone = Status {
             future: false,
             delete_times: 1,
         };
-        with_state(piece, gone, diff, or_real(real, start))
-    }
-}
-
-// A diff_status, or the status where it is absent.
-pub fn diff_or(diff: Option<Status>, status: Status) -> Status
-    ensures { result ≡ diff_or diff status }
-{
-    match diff {
-        None => status,
-        Some(d) => d,
+        FugueSpan {
+            status: gone,
+            real_id: piece.real_id.or(Some(self.start)),
+            ..piece
+        }
     }
 }
 
@@ -145,13 +104,9 @@ impl Update {
     pub fn cut(self, row: FugueSpan) -> Part
         ensures { result ≡ update_cut self row }
     {
-        if row.id.peer == self.peer {
-            match counter_of(row.id.counter) {
-                None => Part { from: 0, to: 0 },
-                Some(c) => self.part_at(c, row.rle_len()),
-            }
-        } else {
-            Part { from: 0, to: 0 }
+        match counter_of(row.id.counter) {
+            Some(c) if row.id.peer == self.peer => self.part_at(c, row.rle_len()),
+            _ => Part::default(),
         }
     }
 
@@ -160,8 +115,8 @@ impl Update {
         ensures { result ≡ part_at self c len }
     {
         Part {
-            from: least(past(self.from, c), len),
-            to: least(past(self.to, c), len),
+            from: self.from.saturating_sub(c).min(len),
+            to: self.to.saturating_sub(c).min(len),
         }
     }
 
@@ -169,12 +124,10 @@ impl Update {
     pub fn base(self, piece: FugueSpan) -> Status
         ensures { result ≡ base_of self.diff piece }
     {
-        let diff = piece.diff_status;
-        let status = piece.status;
         if self.diff {
-            diff_or(diff, status)
+            piece.diff_status.unwrap_or(piece.status)
         } else {
-            status
+            piece.status
         }
     }
 
@@ -183,13 +136,9 @@ impl Update {
         requires { in_i16 (base.delete_times +ℤ self.change) ≡ true }
         ensures { result ≡ change_status self.set self.change base }
     {
-        let set = self.set;
-        match base.changed(self.change) {
-            Ok(s) => Status {
-                future: set.apply(s.future),
-                delete_times: s.delete_times,
-            },
-            Err(_) => base,
+        Status {
+            future: self.set.apply(base.future),
+            delete_times: base.delete_times + self.change,
         }
     }
 
@@ -198,14 +147,17 @@ impl Update {
         requires { in_i16 ((base_of self.diff piece).delete_times +ℤ self.change) ≡ true }
         ensures { result ≡ update_unit self.set self.change self.diff piece }
     {
-        let status = piece.status;
-        let diff = piece.diff_status;
-        let real = piece.real_id;
         let new = self.status(self.base(piece));
         if self.diff {
-            with_state(piece, status, Some(new), real)
+            FugueSpan {
+                diff_status: Some(new),
+                ..piece
+            }
         } else {
-            with_state(piece, new, diff, real)
+            FugueSpan {
+                status: new,
+                ..piece
+            }
         }
     }
 }
@@ -229,7 +181,7 @@ impl Change {
     {
         match self {
             Change::Delete(d) => Change::Delete(d.after(row)),
-            Change::Update(u) => Change::Update(u),
+            Change::Update(_) => self,
         }
     }
 

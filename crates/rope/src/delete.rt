@@ -1,5 +1,6 @@
 // The delete of visible units (000 `delete`).
 ghost use Rattle.std.specs.Prelude.{◌≡◌, true, ◌≤◌, ◌<◌, drop};
+ghost use Rattle.span.specs.Refusal.{code_of};
 ghost use Rattle.span.specs.Units.{expand, join};
 ghost use Rattle.store.specs.Row.{rows};
 ghost use Rattle.units.specs.Change.{delete_units, pieces};
@@ -16,7 +17,8 @@ use crate::edit::room_end;
 use crate::report::{removed_len, report};
 use crate::seek::visible;
 use crate::state::check;
-use span::ids::Id;
+use span::ids::{Id, real_has_room};
+use span::refusal::Refusal;
 use store::header;
 
 // The delete of len visible units from a position on, in a well formed list with room for what it becomes. The answer is the number
@@ -25,15 +27,7 @@ pub fn delete_rows(s: &mut [u8], n: usize, at: u32, len: u32, start: Id) -> usiz
     requires { Deletes n at len start s.old }
     ensures { rows result s.new ≡ join (delete_units at len start (expand (rows n s.old))) }
 {
-    apply(
-        s,
-        n,
-        Change::Delete(Delete {
-            at: at,
-            len: len,
-            start: start,
-        }),
-    )
+    apply(s, n, Change::Delete(Delete { at, len, start }))
 }
 
 // What refuses the delete of some units in a well formed list: `most` is the room for rows, `places` that of the output.
@@ -44,25 +38,23 @@ pub fn refuse_delete(
     most: usize,
     places: usize,
     reversed: bool,
-) -> u8
+) -> Result<(), Refusal>
     requires { Stored n s.now × (n ≤ 65536) }
-    ensures { result ≡ delete_rest most places (rows n s.now) d reversed }
+    ensures { code_of result ≡ delete_rest most places (rows n s.now) d reversed }
 {
-    let start = d.start;
-    let real = Some(start);
-    if !real.has_room(d.len) {
-        return 2;
+    if !real_has_room(Some(d.start), d.len) {
+        return Err(Refusal::Id);
     }
     if visible(s, n) < d.at as usize + d.len as usize {
-        return 8;
+        return Err(Refusal::Range);
     }
     if most < count(s, n, Change::Delete(d)) {
-        return 10;
+        return Err(Refusal::Room);
     }
     if places < removed_len(s, n, d, reversed) {
-        return 13;
+        return Err(Refusal::Output);
     }
-    0
+    Ok(())
 }
 
 // The delete carried out in the rows of a store, and their number set.
@@ -88,30 +80,32 @@ pub fn delete(
     ensures { Deleted (delete_number s.old out.old pos len start reversed) (delete_list s.old pos len start) (pieces (spans_of s.old) pos len reversed) result s.old out.old s.new out.new }
 {
     if !check(s) {
-        return Err(15);
+        return Err(Refusal::Store);
     }
     if len == 0 {
         return Ok(0);
     }
     let d = Delete {
         at: pos,
-        len: len,
-        start: start,
+        len,
+        start,
     };
     delete_some(s, out, d, reversed)
 }
 
 // The same, of some units in a well formed store.
-pub fn delete_some(s: &mut [u8], out: &mut [u8], d: Delete, reversed: bool) -> Result<usize, Refusal>
+pub fn delete_some(
+    s: &mut [u8],
+    out: &mut [u8],
+    d: Delete,
+    reversed: bool,
+) -> Result<usize, Refusal>
     requires { (is_state s.old ≡ true) × (0 < d.len) }
     ensures { Deleted (delete_code (room s.old) (out_rows out.old) (spans_of s.old) d.at d.len d.start reversed) (delete_list s.old d.at d.len d.start) (pieces (spans_of s.old) d.at d.len reversed) result s.old out.old s.new out.new }
 {
     let n = header::count(s) as usize;
     let most = header::room(s);
-    let code = refuse_delete(&s[72..], n, d, most, out.len() / 72, reversed);
-    if code != 0 {
-        return Err(code);
-    }
+    refuse_delete(&s[72..], n, d, most, out.len() / 72, reversed)?;
     let k = report(&s[72..], n, out, d, reversed);
     write_delete(s, n, d);
     Ok(k)

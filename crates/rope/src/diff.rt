@@ -1,29 +1,31 @@
 // get_diff: the delta from each span's status to its diff_status, one entry after the other, and all of them in lent columns of numbers.
-ghost use Rattle.std.specs.Prelude.{◌≡◌, ◌+◌, ◌<◌, min, length};
+ghost use Rattle.std.specs.Prelude.{◌≡◌, ◌+◌, ◌<◌, length};
 ghost use Rattle.store.specs.Row.{rows};
 ghost use Rattle.units.specs.Lists.{every};
 ghost use Rattle.units.specs.Store.{spans_of};
 ghost use Rattle.rope.specs.Spans.{Stored};
-ghost use Rattle.units.specs.Delta.{lamport_of, insert_of_span, insertable, entries, is_real};
+ghost use Rattle.units.specs.Delta.{lamport_of, insert_of_span, insertable, entries};
 ghost use Rattle.rope.specs.Columns.{change_of, step_by, entry_numbers, insert_numbers, least, Ahead, NextOf, Hold, Set, Filled, Diffed, diff_rows_code, get_diff_code};
 
 use crate::state::check;
 use span::chunk::RichtextChunk;
 use span::ids::{Id, UNKNOWN_PEER};
+use span::refusal::Refusal;
 use span::span::{DiffStatus, FugueSpan};
 use store::header;
-use units::diff::{Entry};
+use units::diff::Entry;
 
-// The next entry, with the row and the gap from which the rest goes on; or the end.
+// An entry, with the row and the gap from which the rest goes on.
 #[derive(Clone, Copy)]
-pub enum Step {
-    End,
-    Next(Entry, usize, u32),
+pub struct Step {
+    pub entry: Entry,
+    pub row: usize,
+    pub gap: u32,
 }
 
 // An entry as numbers, one for each column. The kind is 0 Retain, 1 Delete, 2 Insert, 3 Insert without lamport; a is the length or the chunk's
 // start, b the chunk's end; the counter stands by its bits. What an entry does not have is 0.
-#[derive(Clone, Copy)]
+#[derive(Clone, Copy, Default)]
 pub struct EntryNumbers {
     pub kind: u8,
     pub a: u32,
@@ -49,29 +51,17 @@ fn lamport_of(row: FugueSpan) -> Option<u32>
 fn insert_of(row: FugueSpan) -> Entry
     ensures { result ≡ insert_of_span row }
 {
-    let real = row.real_id();
-    let lamport = lamport_of(row);
-    let content = row.content;
-    Entry::Insert(content, real, lamport)
+    Entry::Insert(row.content, row.real_id(), lamport_of(row))
 }
 
+// What becomes of a span, as an entry.
 pub fn change_of(row: FugueSpan) -> Option<Entry>
     ensures { result ≡ change_of row }
 {
-    let diff = row.diff();
-    match diff {
+    match row.diff() {
         DiffStatus::NotChanged => None,
         DiffStatus::Created => Some(insert_of(row)),
         DiffStatus::Deleted => Some(Entry::Delete(row.rle_len())),
-    }
-}
-
-fn is_real(real: Option<Id>) -> bool
-    ensures { result ≡ is_real real }
-{
-    match real {
-        None => false,
-        Some(_) => true,
     }
 }
 
@@ -79,13 +69,7 @@ fn is_real(real: Option<Id>) -> bool
 fn can_insert(row: FugueSpan) -> bool
     ensures { result ≡ insertable row }
 {
-    let diff = row.diff();
-    let real = row.real_id;
-    match diff {
-        DiffStatus::NotChanged => true,
-        DiffStatus::Created => is_real(real),
-        DiffStatus::Deleted => true,
-    }
+    row.diff() != DiffStatus::Created || row.real_id.is_some()
 }
 
 // ---- One entry after the other
@@ -96,33 +80,34 @@ fn gap_first(gap: u32, i: usize, entry: Entry) -> Step
     ensures { result ≡ step_by gap i entry }
 {
     if gap == 0 {
-        Step::Next(entry, i + 1, 0)
+        Step {
+            entry,
+            row: i + 1,
+            gap: 0,
+        }
     } else {
-        Step::Next(Entry::Retain(gap), i, 0)
+        Step {
+            entry: Entry::Retain(gap),
+            row: i,
+            gap: 0,
+        }
     }
 }
 
 // The first entry from row `from` on, with `since` visible units since the last change.
-pub fn next_entry(s: &[u8], n: usize, from: usize, since: u32) -> Step
+pub fn next_entry(s: &[u8], n: usize, from: usize, since: u32) -> Option<Step>
     requires { Ahead n s.now from since }
     ensures { NextOf (rows n s.now) from since result }
 {
-    let mut i = from;
     let mut gap = since;
-    while i < n {
+    for i in from..n {
         let row = store::get_row(s, i);
-        let change = change_of(row);
-        match change {
-            None => {
-                gap += row.activated_len();
-                i += 1;
-            }
-            Some(entry) => {
-                return gap_first(gap, i, entry);
-            }
+        if let Some(entry) = change_of(row) {
+            return Some(gap_first(gap, i, entry));
         }
+        gap += row.activated_len();
     }
-    Step::End
+    None
 }
 
 // Whether the delta has a real id for all that comes in.
@@ -130,12 +115,10 @@ pub fn all_real(s: &[u8], n: usize) -> bool
     requires { Stored n s.now }
     ensures { result ≡ every insertable (rows n s.now) }
 {
-    let mut i = 0;
-    while i < n {
+    for i in 0..n {
         if !can_insert(store::get_row(s, i)) {
             return false;
         }
-        i += 1;
     }
     true
 }
@@ -148,19 +131,12 @@ pub fn count_entries(s: &[u8], n: usize) -> usize
     let mut i = 0;
     let mut gap = 0;
     let mut k = 0;
-    loop {
-        let next = next_entry(s, n, i, gap);
-        match next {
-            Step::End => {
-                return k;
-            }
-            Step::Next(_, row, left) => {
-                i = row;
-                gap = left;
-                k += 1;
-            }
-        }
+    while let Some(next) = next_entry(s, n, i, gap) {
+        i = next.row;
+        gap = next.gap;
+        k += 1;
     }
+    k
 }
 
 // ---- Columns
@@ -171,20 +147,13 @@ pub fn numbers_of(entry: Entry) -> EntryNumbers
 {
     match entry {
         Entry::Retain(n) => EntryNumbers {
-            kind: 0,
             a: n,
-            b: 0,
-            peer: 0,
-            counter: 0,
-            lamport: 0,
+            ..EntryNumbers::default()
         },
         Entry::Delete(n) => EntryNumbers {
             kind: 1,
             a: n,
-            b: 0,
-            peer: 0,
-            counter: 0,
-            lamport: 0,
+            ..EntryNumbers::default()
         },
         Entry::Insert(content, id, lamport) => insert_numbers(content, id, lamport),
     }
@@ -193,24 +162,13 @@ pub fn numbers_of(entry: Entry) -> EntryNumbers
 fn insert_numbers(content: RichtextChunk, id: Id, lamport: Option<u32>) -> EntryNumbers
     ensures { result ≡ insert_numbers content id lamport }
 {
-    let bits = store::counter_bits(id);
-    match lamport {
-        None => EntryNumbers {
-            kind: 3,
-            a: content.start,
-            b: content.end,
-            peer: id.peer,
-            counter: bits,
-            lamport: 0,
-        },
-        Some(first) => EntryNumbers {
-            kind: 2,
-            a: content.start,
-            b: content.end,
-            peer: id.peer,
-            counter: bits,
-            lamport: first,
-        },
+    EntryNumbers {
+        kind: if lamport.is_some() { 2 } else { 3 },
+        a: content.start,
+        b: content.end,
+        peer: id.peer,
+        counter: store::counter_bits(id),
+        lamport: lamport.unwrap_or(0),
     }
 }
 
@@ -253,26 +211,21 @@ fn write_entries(
     let mut i = 0;
     let mut gap = 0;
     let mut k = 0;
-    loop {
-        let next = next_entry(s, n, i, gap);
-        match next {
-            Step::End => {
-                return;
-            }
-            Step::Next(entry, row, left) => {
-                put_entry(kind, a, b, peer, counter, lamport, k, numbers_of(entry));
-                i = row;
-                gap = left;
-                k += 1;
-            }
-        }
+    while let Some(next) = next_entry(s, n, i, gap) {
+        put_entry(
+            kind,
+            a,
+            b,
+            peer,
+            counter,
+            lamport,
+            k,
+            numbers_of(next.entry),
+        );
+        i = next.row;
+        gap = next.gap;
+        k += 1;
     }
-}
-
-fn lesser(x: usize, y: usize) -> usize
-    ensures { result ≡ min x y }
-{
-    if x < y { x } else { y }
 }
 
 // A room of several columns is as long as its shortest.
@@ -286,10 +239,7 @@ pub fn shortest(
 ) -> usize
     ensures { result ≡ least kind a b peer counter lamport }
 {
-    lesser(
-        kind,
-        lesser(a, lesser(b, lesser(peer, lesser(counter, lamport)))),
-    )
+    kind.min(a.min(b.min(peer.min(counter.min(lamport)))))
 }
 
 // get_diff of the rows.
@@ -307,7 +257,7 @@ pub fn diff_rows(
     ensures { Diffed (diff_rows_code (least (length kind.old) (length a.old) (length b.old) (length peer.old) (length counter.old) (length lamport.old)) (rows n s.now)) (rows n s.now) result kind.old a.old b.old peer.old counter.old lamport.old kind.new a.new b.new peer.new counter.new lamport.new }
 {
     if !all_real(s, n) {
-        return Err(12);
+        return Err(Refusal::NoRealId);
     }
     let many = count_entries(s, n);
     let room = shortest(
@@ -319,7 +269,7 @@ pub fn diff_rows(
         lamport.len(),
     );
     if room < many {
-        return Err(13);
+        return Err(Refusal::Output);
     }
     write_entries(s, n, kind, a, b, peer, counter, lamport);
     Ok(many)
@@ -338,7 +288,7 @@ pub fn get_diff(
     ensures { Diffed (get_diff_code (least (length kind.old) (length a.old) (length b.old) (length peer.old) (length counter.old) (length lamport.old)) s.now) (spans_of s.now) result kind.old a.old b.old peer.old counter.old lamport.old kind.new a.new b.new peer.new counter.new lamport.new }
 {
     if !check(s) {
-        return Err(15);
+        return Err(Refusal::Store);
     }
     let n = header::count(s) as usize;
     diff_rows(&s[72..], n, kind, a, b, peer, counter, lamport)

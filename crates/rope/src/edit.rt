@@ -1,5 +1,6 @@
-// The calls that edit a store in lent bytes. Each answers 0 or the number of the refusal, and a refused call keeps every byte.
+// The calls that edit a store in lent bytes. A refused call keeps every byte.
 ghost use Rattle.std.specs.Prelude.{◌≡◌, ◌+◌, ◌*◌, true, drop};
+ghost use Rattle.span.specs.Refusal.{code_of};
 ghost use Rattle.span.specs.Span.{span_code, new_span};
 ghost use Rattle.span.specs.Units.{expand, join};
 ghost use Rattle.store.specs.Row.{rows};
@@ -18,60 +19,61 @@ use crate::seek::visible;
 use crate::state::check;
 use span::chunk::RichtextChunk;
 use span::ids::{Id, UNKNOWN_PEER};
-use span::span::{FugueSpan};
+use span::refusal::Refusal;
+use span::span::FugueSpan;
 use store::header;
 use store::limits::UNITS;
 
 // Inserts a new span at a visible position.
-pub fn insert(s: &mut [u8], pos: u32, id: Id, lamport: u32, content: RichtextChunk) -> u8
-    ensures { EditedIn (insert_number s.old pos (new_span id lamport content)) (insert_list s.old pos (new_span id lamport content)) result s.old s.new }
+pub fn insert(
+    s: &mut [u8],
+    pos: u32,
+    id: Id,
+    lamport: u32,
+    content: RichtextChunk,
+) -> Result<(), Refusal>
+    ensures { EditedIn (insert_number s.old pos (new_span id lamport content)) (insert_list s.old pos (new_span id lamport content)) (code_of result) s.old s.new }
 {
     if !check(s) {
-        return 15;
+        return Err(Refusal::Store);
     }
-    match FugueSpan::new(id, lamport, content) {
-        Err(code) => code,
-        Ok(x) => insert_span(s, pos, x),
-    }
+    insert_span(s, pos, FugueSpan::new(id, lamport, content)?)
 }
 
 // The same, where the store and the span are well formed.
-pub fn insert_span(s: &mut [u8], pos: u32, x: FugueSpan) -> u8
+pub fn insert_span(s: &mut [u8], pos: u32, x: FugueSpan) -> Result<(), Refusal>
     requires { (is_state s.old ≡ true) × (span_code x ≡ 0) }
-    ensures { EditedIn (insert_code (room s.old) (spans_of s.old) pos x) (insert_list s.old pos x) result s.old s.new }
+    ensures { EditedIn (insert_code (room s.old) (spans_of s.old) pos x) (insert_list s.old pos x) (code_of result) s.old s.new }
 {
     let n = header::count(s) as usize;
     let sum = units(&s[72..], n);
-    let code = first_code(&s[72..], n, sum, pos, x);
-    if code != 0 {
-        return code;
-    }
+    first_code(&s[72..], n, sum, pos, x)?;
     let p = plan_insert(&s[72..], n, sum, pos, x);
     if header::room(s) < p.rows(n) {
-        return 10;
+        return Err(Refusal::Room);
     }
     write_plan(s, n, p);
-    0
+    Ok(())
 }
 
 // What refuses it, but for the room.
-pub fn first_code(s: &[u8], n: usize, units: usize, pos: u32, x: FugueSpan) -> u8
+pub fn first_code(s: &[u8], n: usize, units: usize, pos: u32, x: FugueSpan) -> Result<(), Refusal>
     requires { Asked n units x s.now }
-    ensures { result ≡ insert_first (rows n s.now) pos x }
+    ensures { code_of result ≡ insert_first (rows n s.now) pos x }
 {
     if x.id.peer == UNKNOWN_PEER {
-        return 2;
+        return Err(Refusal::Id);
     }
     if holds(s, n, x) {
-        return 3;
+        return Err(Refusal::IdTaken);
     }
     if visible(s, n) < pos as usize {
-        return 8;
+        return Err(Refusal::Range);
     }
     if UNITS < units + len_of(x) {
-        return 10;
+        return Err(Refusal::Room);
     }
-    0
+    Ok(())
 }
 
 // Where the room that counts ends: only what stands before it is lent to be written.
@@ -92,15 +94,15 @@ pub fn write_plan(s: &mut [u8], n: usize, p: Plan)
 }
 
 // Drops every unit's diff_status.
-pub fn clear_diff_status(s: &mut [u8]) -> u8
-    ensures { EditedIn (state_code s.old) (join (clear_units (expand (spans_of s.old)))) result s.old s.new }
+pub fn clear_diff_status(s: &mut [u8]) -> Result<(), Refusal>
+    ensures { EditedIn (state_code s.old) (join (clear_units (expand (spans_of s.old)))) (code_of result) s.old s.new }
 {
     if !check(s) {
-        return 15;
+        return Err(Refusal::Store);
     }
     let n = header::count(s) as usize;
     let end = room_end(s);
     let k = clear_rows(&mut s[72..end], n);
     header::set_count(s, k as u64);
-    0
+    Ok(())
 }

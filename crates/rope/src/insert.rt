@@ -8,6 +8,7 @@ ghost use Rattle.rope.specs.Plans.{Cuts, cut_rows, planned, plan_rows, Can, Plan
 
 use crate::place::{right_from, scan_from};
 use crate::seek::{Cursor, seek};
+use span::ids::Id;
 use span::span::FugueSpan;
 
 // What an insert does to the rows: a row becomes that row and the span joined to its end; the span goes before a row; or it goes into a row,
@@ -41,45 +42,38 @@ pub fn plan_border(s: &[u8], n: usize, r: usize, y: FugueSpan) -> Plan
     if 0 < r {
         let left = store::get_row(s, r - 1);
         if left.can_merge(y) {
-            Plan::Join(r - 1, left.joined(y))
-        } else {
-            Plan::Own(r, y)
+            return Plan::Join(r - 1, left.joined(y));
         }
-    } else {
-        Plan::Own(r, y)
     }
+    Plan::Own(r, y)
 }
 
+// The span with other origins.
 pub fn with_origins(x: FugueSpan, left: Option<Id>, right: Option<Id>) -> FugueSpan
     ensures { result ≡ with_origins x left right }
 {
-    let id = x.id;
-    let real = x.real_id;
-    let status = x.status;
-    let diff = x.diff_status;
-    let content = x.content;
     FugueSpan {
-        id: id,
-        lamport: x.lamport,
-        real_id: real,
-        status: status,
-        diff_status: diff,
         origin_left: left,
         origin_right: right,
-        content: content,
+        ..x
     }
 }
 
 // The span x is inserted by a cursor that stands before row `at`, right after the unit `left`.
-pub fn plan_scan(s: &[u8], n: usize, units: usize, at: usize, left: Option<Id>, x: FugueSpan) -> Plan
+pub fn plan_scan(
+    s: &[u8],
+    n: usize,
+    units: usize,
+    at: usize,
+    left: Option<Id>,
+    x: FugueSpan,
+) -> Plan
     requires { AtBorder n units at left x s.now }
     ensures { Planned result n (border_units at left x (rows n s.now)) s.now }
 {
     let right = right_from(s, n, at);
-    let q = x.id.peer;
-    let r = scan_from(s, n, units, at, left, right, q);
-    let y = with_origins(x, left, right);
-    plan_border(s, n, at + r, y)
+    let r = scan_from(s, n, units, at, left, right, x.id.peer);
+    plan_border(s, n, at + r, with_origins(x, left, right))
 }
 
 // The insert of a span at a visible position of a well formed list.
@@ -100,16 +94,13 @@ pub fn plan_after(s: &[u8], n: usize, units: usize, at: u32, c: Cursor, x: Fugue
     requires { Ready n units at x s.now × (0 < at) × (c ≡ seek_in (rows n s.now) at 0) }
     ensures { Planned result n (insert_units at x (expand (rows n s.now))) s.now }
 {
-    let r = c.row;
-    let off = c.offset;
-    let row = store::get_row(s, r);
-    let left = row.left_at(off);
-    if off == row.rle_len() {
-        plan_scan(s, n, units, r + 1, left, x)
+    let row = store::get_row(s, c.row);
+    let left = row.left_at(c.offset);
+    if c.offset == row.rle_len() {
+        plan_scan(s, n, units, c.row + 1, left, x)
     } else {
-        let right = row.left_at(off + 1);
-        let y = with_origins(x, left, right);
-        Plan::Cut(r, off, y)
+        let right = row.left_at(c.offset + 1);
+        Plan::Cut(c.row, c.offset, with_origins(x, left, right))
     }
 }
 

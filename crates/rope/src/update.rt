@@ -1,5 +1,6 @@
 // The update of an id range (000 `update`).
 ghost use Rattle.std.specs.Prelude.{◌≡◌, true, ◌*◌, ◌≤◌, ◌<◌, pos, ◌+ℤ◌, length, drop};
+ghost use Rattle.span.specs.Refusal.{code_of};
 ghost use Rattle.span.specs.Span.{span_code};
 ghost use Rattle.span.specs.Status.{in_i16};
 ghost use Rattle.span.specs.Units.{units_of, expand, join};
@@ -14,12 +15,13 @@ ghost use Rattle.rope.specs.Edits.{WrittenIn, EditedIn};
 ghost use Rattle.rope.specs.Updated.{update_number, update_list, updated_units, update_rest, Rewrites};
 
 use crate::apply::apply;
-use crate::change::{Change, Update, past};
+use crate::change::{Change, Update};
 use crate::edit::room_end;
 use crate::exact::rows_after;
 use crate::state::check;
+use span::refusal::Refusal;
 use span::span::FugueSpan;
-use span::status::{counter_of};
+use span::status::counter_of;
 use store::header;
 use units::change::SetFuture;
 
@@ -36,10 +38,7 @@ pub fn update_rows(s: &mut [u8], n: usize, u: Update) -> usize
 pub fn base_fits(u: Update, row: FugueSpan) -> bool
     ensures { result ≡ in_i16 ((base_of u.diff row).delete_times +ℤ u.change) }
 {
-    match u.base(row).changed(u.change) {
-        Ok(_) => true,
-        Err(_) => false,
-    }
+    u.base(row).changed(u.change).is_ok()
 }
 
 // The same of the units of a row that it changes. (The row is one of a well formed list, which the entry asked.)
@@ -48,11 +47,7 @@ pub fn row_fits(u: Update, row: FugueSpan) -> bool
     ensures { result ≡ counts_fit u.peer (pos u.from) (pos u.to) u.change u.diff (units_of row) }
 {
     let part = u.cut(row);
-    if part.from < part.to {
-        base_fits(u, row)
-    } else {
-        true
-    }
+    part.to <= part.from || base_fits(u, row)
 }
 
 // Whether an update keeps every count within i16 (refusal 11), in a well formed list, which the entry asked.
@@ -60,12 +55,10 @@ pub fn counts_fit(s: &[u8], n: usize, u: Update) -> bool
     requires { (n * 72 ≤ length s.now) × AllOk (rows n s.now) × (u.from ≤ u.to) }
     ensures { result ≡ counts_fit u.peer (pos u.from) (pos u.to) u.change u.diff (expand (rows n s.now)) }
 {
-    let mut i = 0;
-    while i < n {
+    for i in 0..n {
         if !row_fits(u, store::get_row(s, i)) {
             return false;
         }
-        i += 1;
     }
     true
 }
@@ -76,7 +69,7 @@ pub fn part_len(u: Update, row: FugueSpan) -> usize
     ensures { (result ≡ length (keep_if (in_range u.peer (pos u.from) (pos u.to)) (units_of row))) × (result < 4294967296) }
 {
     let part = u.cut(row);
-    past(part.to, part.from) as usize
+    part.to.saturating_sub(part.from) as usize
 }
 
 // Whether every id of an update is in a well formed list, which the entry asked (refusal 6): no id is there twice, so that as many units as
@@ -85,31 +78,29 @@ pub fn held_in(s: &[u8], n: usize, u: Update) -> bool
     requires { (n * 72 ≤ length s.now) × AllOk (rows n s.now) × (n ≤ 65536) × (u.from ≤ u.to) }
     ensures { result ≡ holds_all u.peer (pos u.from) (pos u.to) (expand (rows n s.now)) }
 {
-    let mut i = 0;
     let mut sum = 0;
-    while i < n {
+    for i in 0..n {
         sum += part_len(u, store::get_row(s, i));
-        i += 1;
     }
     sum == (u.to - u.from) as usize
 }
 
 // What refuses an update of some counters, in a well formed list, which the entry asked, with room for `most` rows. All is decided before
 // the first write.
-pub fn refuse_update(s: &[u8], n: usize, u: Update, most: usize) -> u8
+pub fn refuse_update(s: &[u8], n: usize, u: Update, most: usize) -> Result<(), Refusal>
     requires { Stored n s.now × (n ≤ 65536) × (u.from ≤ u.to) }
-    ensures { result ≡ update_rest most (rows n s.now) u }
+    ensures { code_of result ≡ update_rest most (rows n s.now) u }
 {
     if !held_in(s, n, u) {
-        return 6;
+        return Err(Refusal::Version);
     }
     if most < rows_after(s, n, u) {
-        return 10;
+        return Err(Refusal::Room);
     }
     if !counts_fit(s, n, u) {
-        return 11;
+        return Err(Refusal::Count);
     }
-    0
+    Ok(())
 }
 
 // The update carried out in the rows of a store, and their number set. (That nothing refuses it was asked.)
@@ -123,22 +114,19 @@ pub fn write_update(s: &mut [u8], n: usize, u: Update)
 }
 
 // The update of some counters that are not below zero, in a well formed store, which the entry asked.
-pub fn update_some(s: &mut [u8], u: Update) -> u8
+pub fn update_some(s: &mut [u8], u: Update) -> Result<(), Refusal>
     requires { (is_state s.old ≡ true) × (u.from < u.to) }
-    ensures { EditedIn (update_code (room s.old) (spans_of s.old) u.peer (pos u.from) (pos u.to) u.set u.change u.diff) (update_list s.old u.peer (pos u.from) (pos u.to) u.set u.change u.diff) result s.old s.new }
+    ensures { EditedIn (update_code (room s.old) (spans_of s.old) u.peer (pos u.from) (pos u.to) u.set u.change u.diff) (update_list s.old u.peer (pos u.from) (pos u.to) u.set u.change u.diff) (code_of result) s.old s.new }
 {
     let n = header::count(s) as usize;
     let most = header::room(s);
-    let code = refuse_update(&s[72..], n, u, most);
-    if code != 0 {
-        return code;
-    }
+    refuse_update(&s[72..], n, u, most)?;
     write_update(s, n, u);
-    0
+    Ok(())
 }
 
 // Updates the counters from..to of a peer: future is set as asked and `change` is added to the count, of the status or of the diff_status.
-// No counters are no change. The answer is 0 or the number of the refusal.
+// No counters are no change.
 pub fn update(
     s: &mut [u8],
     peer: u64,
@@ -147,27 +135,23 @@ pub fn update(
     set: SetFuture,
     change: i16,
     diff: bool,
-) -> u8
-    ensures { EditedIn (update_number s.old peer from to set change diff) (update_list s.old peer from to set change diff) result s.old s.new }
+) -> Result<(), Refusal>
+    ensures { EditedIn (update_number s.old peer from to set change diff) (update_list s.old peer from to set change diff) (code_of result) s.old s.new }
 {
     if !check(s) {
-        return 15;
+        return Err(Refusal::Store);
     }
     if to <= from {
-        return 0;
+        return Ok(());
     }
-    match counter_of(from) {
-        None => 6,
-        Some(a) => update_some(
-            s,
-            Update {
-                peer: peer,
-                from: a,
-                to: to as u32,
-                set: set,
-                change: change,
-                diff: diff,
-            },
-        ),
-    }
+    let from = counter_of(from).ok_or(Refusal::Version)?;
+    let u = Update {
+        peer,
+        from,
+        to: to as u32,
+        set,
+        change,
+        diff,
+    };
+    update_some(s, u)
 }
