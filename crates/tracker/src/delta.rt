@@ -2,6 +2,7 @@
 // All refusals are decided before the first write.
 ghost use Rattle.std.specs.Prelude.{◌≡◌, true, List, ℕ, ◌*◌, ◌≤◌, length};
 ghost use Rattle.span.specs.declared.span.FugueSpan.{FugueSpan};
+ghost use Rattle.span.specs.Refusal.{code_of};
 ghost use Rattle.store.specs.Header.{spans_of};
 ghost use Rattle.store.specs.Limits.{EDITS};
 ghost use Rattle.rope.specs.Edits.{WrittenIn};
@@ -19,65 +20,54 @@ use crate::row::edit_count;
 use crate::seen::count_seen;
 use crate::stand::stand;
 use rope::diff::{diff_rows, shortest};
+use span::refusal::Refusal;
 use store::header;
 use store::limits::PEERS;
 
-// The number of the refusal, or 0 and what the writing needs: edits, rows, rows with both statuses, rows at A.
+// What the writing needs: edits, rows, rows with both statuses, rows at A.
 #[derive(Clone, Copy)]
 pub struct Ready {
-    pub code: u8,
     pub edits: usize,
     pub rows: usize,
     pub both: usize,
     pub one: usize,
 }
 
-fn refused(code: u8) -> Ready
-    ensures { result.code ≡ code }
-{
-    Ready {
-        code: code,
-        edits: 0,
-        rows: 0,
-        both: 0,
-        one: 0,
-    }
-}
-
 // What refuses two versions. The edits lie within the bytes, as the entries asked.
-pub fn versions_code(e: &[u8], h: usize, a: &[u8], ka: usize, b: &[u8], kb: usize) -> u8
+pub fn check_versions(
+    e: &[u8],
+    h: usize,
+    a: &[u8],
+    ka: usize,
+    b: &[u8],
+    kb: usize,
+) -> Result<(), Refusal>
     requires { (h * 256 ≤ length e.now) × (h ≤ EDITS) × (ka * 12 ≤ length a.now) × (kb * 12 ≤ length b.now) }
-    ensures { (t : List ℕ) → result ≡ versions_code (held h e.now t) (pairs ka a.now) (pairs kb b.now) }
+    ensures { (t : List ℕ) → code_of result ≡ versions_code (held h e.now t) (pairs ka a.now) (pairs kb b.now) }
 {
-    if !named(e, h, a, ka) {
-        return 6;
+    if !(named(e, h, a, ka) && named(e, h, b, kb)) {
+        return Err(Refusal::Version);
     }
-    if !named(e, h, b, kb) {
-        return 6;
+    if !(closed(e, h, a, ka) && closed(e, h, b, kb)) {
+        return Err(Refusal::NotClosed);
     }
-    if !closed(e, h, a, ka) {
-        return 7;
-    }
-    if !closed(e, h, b, kb) {
-        return 7;
-    }
-    0
+    Ok(())
 }
 
 // What refuses a list with both statuses that was measured: no room for it, an insert without real id, no room for the entries.
-pub fn rooms_code(m: Measure, spans: usize, most: usize) -> u8
-    ensures { (l : List FugueSpan) → Measures l m → result ≡ rooms_code spans most l }
+pub fn check_rooms(m: Measure, spans: usize, most: usize) -> Result<(), Refusal>
+    ensures { (l : List FugueSpan) → Measures l m → code_of result ≡ rooms_code spans most l }
 {
     if spans < m.rows {
-        return 10;
+        return Err(Refusal::Room);
     }
     if !m.fine {
-        return 12;
+        return Err(Refusal::NoRealId);
     }
     if most < m.entries {
-        return 13;
+        return Err(Refusal::Output);
     }
-    0
+    Ok(())
 }
 
 // What refuses a delta of a well formed history, of versions in pairs, each in room for the most pairs that it can have.
@@ -90,35 +80,24 @@ pub fn make_ready(
     b: &[u8],
     kb: usize,
     most: usize,
-) -> Ready
+) -> Result<Ready, Refusal>
     requires { (is_history s.now t.now e.now ≡ true) × (192 ≤ length a.now) × (192 ≤ length b.now) }
     ensures { Readied s.now t.now e.now ka a.now kb b.now most result }
 {
-    if PEERS < ka {
-        return refused(6);
-    }
-    if PEERS < kb {
-        return refused(6);
+    if PEERS < ka || PEERS < kb {
+        return Err(Refusal::Version);
     }
     let h = edit_count(e) as usize;
-    let first = versions_code(&e[64..], h, a, ka, b, kb);
-    if first != 0 {
-        return refused(first);
-    }
+    check_versions(&e[64..], h, a, ka, b, kb)?;
     let n = header::count(s) as usize;
     let m = measure_delta(&s[72..], n, &e[64..], h, t, a, ka, b, kb);
-    let code = rooms_code(m, header::room(s), most);
-    if code != 0 {
-        return refused(code);
-    }
-    let one = count_seen(&s[72..], n, &e[64..], h, t, a, ka, a, ka, false);
-    Ready {
-        code: 0,
+    check_rooms(m, header::room(s), most)?;
+    Ok(Ready {
         edits: h,
         rows: n,
         both: m.rows,
-        one: one,
-    }
+        one: count_seen(&s[72..], n, &e[64..], h, t, a, ka, a, ka, false),
+    })
 }
 
 // The entries go into the columns, and the list to A. There is room for the rows, as the entry asked.
@@ -177,11 +156,7 @@ pub fn delta_to(
         counter.len(),
         lamport.len(),
     );
-    let to = make_ready(s, t, e, a, ka, b, kb, most);
-    let code = to.code;
-    if code != 0 {
-        return Err(code);
-    }
+    let to = make_ready(s, t, e, a, ka, b, kb, most)?;
     write_delta(
         s,
         to.rows,
@@ -222,7 +197,7 @@ pub fn delta(
     ensures { Deltas s.old t.now e.now (version_of from_peers.now from_counts.now) (version_of to_peers.now to_counts.now) (least (length kind.old) (length x.old) (length y.old) (length peer.old) (length counter.old) (length lamport.old)) result s.new kind.old x.old y.old peer.old counter.old lamport.old kind.new x.new y.new peer.new counter.new lamport.new }
 {
     if !check(s, t, e) {
-        return Err(15);
+        return Err(Refusal::Store);
     }
     let mut a = [0u8; 192];
     let ka = put_version(&mut a, from_peers, from_counts);

@@ -36,9 +36,7 @@ pub fn future_at(e: &[u8], h: usize, t: &[u8], v: &[u8], m: usize, id: Id) -> bo
     requires { Looks h e.now t.now m v.now × (room_of id 1 ≡ true) }
     ensures { result ≡ not (in_version (pairs m v.now) id) }
 {
-    let run = status_run(e, h, t, v, m, id, 1);
-    let status = run.status;
-    status.future
+    status_run(e, h, t, v, m, id, 1).status.future
 }
 
 // Origin right for a cursor before row `at`: the first unit from there on that the version has.
@@ -55,14 +53,11 @@ pub fn right_at(
     requires { Sees n s.now h e.now t.now m v.now m v.now × (at ≤ n) }
     ensures { result ≡ first_in (pairs m v.now) (drop at (rows n s.now)) }
 {
-    let mut i = at;
-    while i < n {
-        let row = store::get_row(s, i);
-        let id = row.id;
+    for i in at..n {
+        let id = store::get_row(s, i).id;
         if !future_at(e, h, t, v, m, id) {
             return Some(id);
         }
-        i += 1;
     }
     None
 }
@@ -83,10 +78,9 @@ pub fn weigh(
     requires { Held n count all.now × (i * 72 ≤ length part.now) × AllOk (rows i part.now) }
     ensures { result ≡ verdict (expand (rows n all.now)) x o p q (expand (rows i part.now)) row }
 {
-    let left = row.origin_left;
-    if left.same(x) {
+    if row.origin_left == x {
         judge(all, n, count, row, o, p, q)
-    } else if has(part, i, left) {
+    } else if has(part, i, row.origin_left) {
         Verdict::Keep
     } else {
         Verdict::Stop
@@ -114,11 +108,9 @@ pub fn stays(
     ensures { result ≡ stays_at (pairs m v.now) (verdict (expand (rows n all.now)) x o p q) [] false (rows k part.now) }
 {
     let mut holding = false;
-    let mut i = 0;
-    while i < k {
+    for i in 0..k {
         let row = store::get_row(part, i);
-        let id = row.id;
-        if !future_at(e, h, t, v, m, id) {
+        if !future_at(e, h, t, v, m, row.id) {
             return true;
         }
         let said = weigh(part, i, all, n, count, row, x, o, p, q);
@@ -129,7 +121,6 @@ pub fn stays(
         if !holding {
             return false;
         }
-        i += 1;
     }
     true
 }
@@ -153,8 +144,7 @@ pub fn stays_from(
 {
     let count = units(s, n);
     let p = parent_pos(s, n, count, x, o);
-    let from = at * 72;
-    stays(&s[from..], n - at, s, n, count, e, h, t, v, m, x, o, p, q)
+    stays(&s[at * 72..], n - at, s, n, count, e, h, t, v, m, x, o, p, q)
 }
 
 // Whether a span entered right after the unit u, before row `at`, joins it.
@@ -174,13 +164,8 @@ pub fn joins_at(
     ensures { result ≡ joins_at (pairs m v.now) (rows n s.now) at u x }
 {
     let right = right_at(s, n, at, e, h, t, v, m);
-    let id = u.id;
-    let y = with_origins(x, Some(id), right);
-    if u.can_merge(y) {
-        stays_from(s, n, at, e, h, t, v, m, Some(id), right, x.id.peer)
-    } else {
-        false
-    }
+    u.can_merge(with_origins(x, Some(u.id), right))
+        && stays_from(s, n, at, e, h, t, v, m, Some(u.id), right, x.id.peer)
 }
 
 // The cursor of a visible position that is not the start.
@@ -202,11 +187,10 @@ pub fn find_left(
     let mut left = at;
     loop {
         let step = next_piece(s, n, i, from, e, h, t, v, m, v, m, false);
-        let piece = step.piece;
-        let len = piece.activated_len();
+        let len = step.piece.activated_len();
         if left <= len {
             return Left {
-                piece: piece,
+                piece: step.piece,
                 skip: left,
                 row: step.row,
                 from: step.from,
@@ -223,9 +207,7 @@ pub fn left_unit(n: usize, s: &[u8], f: Left) -> FugueSpan
     requires { Cut n s.now f }
     ensures { result ≡ left_unit f }
 {
-    let piece = f.piece;
-    let to = f.skip;
-    piece.piece(to - 1, to)
+    f.piece.piece(f.skip - 1, f.skip)
 }
 
 // Whether a join crosses the cursor.
@@ -233,25 +215,21 @@ pub fn inside(s: &[u8], n: usize, e: &[u8], h: usize, t: &[u8], v: &[u8], m: usi
     requires { Sees n s.now h e.now t.now m v.now m v.now × Cut n s.now f }
     ensures { result ≡ meets (left_unit f) (behind_of (pairs m v.now) (held h e.now t.now) n s.now f) }
 {
-    let piece = f.piece;
-    if f.skip < piece.rle_len() {
+    if f.skip < f.piece.rle_len() {
         return true;
     }
-    if f.row < n {
-        let u = left_unit(n, s, f);
-        let step = next_piece(s, n, f.row, f.from, e, h, t, v, m, v, m, false);
-        let next = step.piece;
-        u.can_merge(next)
-    } else {
-        false
+    if n <= f.row {
+        return false;
     }
+    let next = next_piece(s, n, f.row, f.from, e, h, t, v, m, v, m, false);
+    left_unit(n, s, f).can_merge(next.piece)
 }
 
 // Whether a cursor at the end of a piece is before a row, or behind all of them.
 pub fn at_edge(n: usize, f: Left) -> bool
     ensures { result ≡ edge n f }
 {
-    if f.from == 0 { true } else { n <= f.row }
+    f.from == 0 || n <= f.row
 }
 
 // Whether the new span joins the unit before the cursor: then that is the last of its row, since the new ids are its next.
@@ -269,17 +247,9 @@ pub fn joins_left(
     requires { Sees n s.now h e.now t.now m v.now m v.now × Cut n s.now f }
     ensures { result ≡ joins_left (pairs m v.now) n s.now f x }
 {
-    let piece = f.piece;
-    if f.skip == piece.rle_len() {
-        if at_edge(n, f) {
-            let u = left_unit(n, s, f);
-            joins_at(s, n, f.row, e, h, t, v, m, u, x)
-        } else {
-            false
-        }
-    } else {
-        false
-    }
+    f.skip == f.piece.rle_len()
+        && at_edge(n, f)
+        && joins_at(s, n, f.row, e, h, t, v, m, left_unit(n, s, f), x)
 }
 
 // Whether the insert of x at a visible position of the version v leaves no more than `most` rows, where its list has k.
@@ -308,11 +278,7 @@ pub fn insert_fits(
     }
     let f = find_left(s, n, e, h, t, v, m, at);
     if 0 < spare {
-        if inside(s, n, e, h, t, v, m, f) {
-            false
-        } else {
-            true
-        }
+        !inside(s, n, e, h, t, v, m, f)
     } else {
         joins_left(s, n, e, h, t, v, m, f, x)
     }

@@ -38,12 +38,6 @@ pub struct Taken {
     pub len: u32,
 }
 
-fn least(a: u32, b: u32) -> u32
-    ensures { result ≡ min a b }
-{
-    if a < b { a } else { b }
-}
-
 // Whether a number is below n, from k on.
 fn below_reach(k: u32, n: u32, most: u32) -> Found
     requires { 0 < most }
@@ -52,7 +46,7 @@ fn below_reach(k: u32, n: u32, most: u32) -> Found
     if k < n {
         Found {
             hit: true,
-            len: least(most, n - k),
+            len: most.min(n - k),
         }
     } else {
         Found {
@@ -71,7 +65,7 @@ fn counters_reach(c: u32, start: u32, n: u32, most: u32) -> Found
         if c < start {
             Found {
                 hit: false,
-                len: least(most, start - c),
+                len: most.min(start - c),
             }
         } else {
             below_reach(c - start, n, most)
@@ -86,21 +80,14 @@ fn range_reach(peer: u64, c: u32, x: Target, most: u32) -> Found
     requires { (0 < most) × (c < 2147483648) }
     ensures { Same (λ (j : ℕ). in_range (unit_id peer (c + j)) (to_range x)) most result }
 {
-    let id = x.id;
-    if peer == id.peer {
-        counters_reach(c, store::counter_bits(id), x.len, most)
+    if peer == x.id.peer {
+        counters_reach(c, store::counter_bits(x.id), x.len, most)
     } else {
         Found {
             hit: false,
             len: most,
         }
     }
-}
-
-fn either(a: bool, b: bool) -> bool
-    ensures { result ≡ a || b }
-{
-    if a { true } else { b }
 }
 
 // Whether a unit is in one of the k ranges from range `at` on.
@@ -110,14 +97,12 @@ fn ranges_reach(t: &[u8], at: usize, k: usize, peer: u64, c: u32, most: u32) -> 
 {
     let mut hit = false;
     let mut len = most;
-    let mut i = 0;
-    while i < k {
+    for i in 0..k {
         let found = range_reach(peer, c, get_target(t, at + i), len);
-        hit = either(hit, found.hit);
+        hit = hit || found.hit;
         len = found.len;
-        i += 1;
     }
-    Found { hit: hit, len: len }
+    Found { hit, len }
 }
 
 // The id of the edit in row i, and how many target ranges it has.
@@ -134,13 +119,6 @@ fn edit_took(e: &[u8], i: usize) -> u32
     ensures { result ≡ took_in (drop (i * 256) e.now) }
 {
     words::get_u32(e, i * 256 + 44)
-}
-
-// Whether none of the units is found.
-fn misses(x: Found, most: u32) -> bool
-    ensures { result ≡ not x.hit && x.len == most }
-{
-    if x.hit { false } else { x.len == most }
 }
 
 // Whether the edit in row i, whose target ranges begin at range `at`, is in the version and took a unit. Of an edit that took none of these units, as most
@@ -161,10 +139,8 @@ fn edit_reach(
 {
     let took = edit_took(e, i);
     let found = ranges_reach(t, at, took as usize, peer, c, most);
-    if misses(found, most) {
-        return found;
-    }
-    if below(v, m, edit_id(e, i)) {
+    let missed = !found.hit && found.len == most;
+    if missed || below(v, m, edit_id(e, i)) {
         found
     } else {
         Found {
@@ -191,19 +167,13 @@ fn edits_reach(
     let mut times = 0;
     let mut len = most;
     let mut at = 0;
-    let mut i = 0;
-    while i < h {
+    for i in 0..h {
         let found = edit_reach(e, i, t, at, v, m, peer, c, len);
-        let took = edit_took(e, i);
-        times += store::bit(found.hit);
+        times += u32::from(found.hit);
         len = found.len;
-        at += took as usize;
-        i += 1;
+        at += edit_took(e, i) as usize;
     }
-    Taken {
-        times: times,
-        len: len,
-    }
+    Taken { times, len }
 }
 
 // Whether a unit is in the version: the placeholder's are in every one.
@@ -230,9 +200,8 @@ pub fn status_run(e: &[u8], h: usize, t: &[u8], v: &[u8], m: usize, id: Id, most
     let peer = id.peer;
     let taken = edits_reach(e, h, t, v, m, peer, c, most);
     let known = version_reach(v, m, peer, c, taken.len);
-    let status = store::status_of(!known.hit, taken.times as u16);
     Reach {
-        status: status,
+        status: store::status_of(!known.hit, taken.times as u16),
         len: known.len,
     }
 }

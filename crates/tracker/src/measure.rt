@@ -22,42 +22,19 @@ pub struct Measure {
     pub gap: u32,
 }
 
-fn is_real(real: Option<Id>) -> bool
-    ensures { result ≡ is_real real }
-{
-    match real {
-        None => false,
-        Some(_) => true,
-    }
-}
-
-fn both(a: bool, b: bool) -> bool
-    ensures { result ≡ (a && b) }
-{
-    a && b
-}
-
 impl Measure {
     // One change more. A list has few enough rows to count.
     pub fn change(self, real: bool) -> Self
         requires { (self.rows ≤ 1000000) × (self.entries ≤ 1000000) }
         ensures { result ≡ changed self real }
     {
-        let fine = both(self.fine, real);
-        if self.gap == 0 {
-            Measure {
-                fine: fine,
-                rows: self.rows + 1,
-                entries: self.entries + 1,
-                gap: 0,
-            }
-        } else {
-            Measure {
-                fine: fine,
-                rows: self.rows + 1,
-                entries: self.entries + 2,
-                gap: 0,
-            }
+        // The units passed since the last change are an entry of their own.
+        let new = if self.gap == 0 { 1 } else { 2 };
+        Measure {
+            fine: self.fine && real,
+            rows: self.rows + 1,
+            entries: self.entries + new,
+            gap: 0,
         }
     }
 
@@ -66,16 +43,13 @@ impl Measure {
         requires { (self.rows ≤ 1000000) × (self.entries ≤ 1000000) × (self.gap + len_span row ≤ 1000000) }
         ensures { result ≡ measured self row }
     {
-        let diff = row.diff();
-        let real = row.real_id;
-        match diff {
+        match row.diff() {
             DiffStatus::NotChanged => Measure {
-                fine: self.fine,
                 rows: self.rows + 1,
-                entries: self.entries,
                 gap: self.gap + row.activated_len(),
+                ..self
             },
-            DiffStatus::Created => self.change(is_real(real)),
+            DiffStatus::Created => self.change(row.real_id.is_some()),
             DiffStatus::Deleted => self.change(true),
         }
     }
@@ -116,8 +90,7 @@ pub fn measure_with(
     };
     while i < n {
         let step = next_piece(s, n, i, from, e, h, t, a, ka, b, kb, true);
-        let piece = step.piece;
-        m = push(q, m, piece);
+        m = push(q, m, step.piece);
         x = pass(q, m, x);
         let k = keep_last(q, m);
         m -= k;

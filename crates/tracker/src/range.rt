@@ -22,8 +22,7 @@ pub fn follows(last: Target, id: Id) -> bool
     requires { room_of last.id last.len ≡ true }
     ensures { result ≡ same_id (inc_id last.id last.len) id }
 {
-    let next = last.id.inc(last.len);
-    next.same(id)
+    last.id.inc(last.len) == id
 }
 
 // Inner functions: their callers know that the ids have counters, and that there are no more than a list has units.
@@ -33,31 +32,24 @@ impl Taken {
         requires { LastOk self.last × (ids_most self + next.len ≤ UNITS) × (0 < next.len) × (room_of next.id next.len ≡ true) }
         ensures { TakesOn self next.id next.len result }
     {
-        let before = self.before;
-        let last = self.last;
-        match last {
-            None => Taken {
-                before: before,
+        let Some(last) = self.last else {
+            return Taken {
                 last: Some(next),
-            },
-            Some(t) => {
-                let id = next.id;
-                let first = t.id;
-                if follows(t, id) {
-                    let both = Target {
-                        id: first,
-                        len: t.len + next.len,
-                    };
-                    Taken {
-                        before: before,
-                        last: Some(both),
-                    }
-                } else {
-                    Taken {
-                        before: before + 1,
-                        last: Some(next),
-                    }
-                }
+                ..self
+            };
+        };
+        if follows(last, next.id) {
+            Taken {
+                last: Some(Target {
+                    len: last.len + next.len,
+                    ..last
+                }),
+                ..self
+            }
+        } else {
+            Taken {
+                before: self.before + 1,
+                last: Some(next),
             }
         }
     }
@@ -68,12 +60,10 @@ impl Taken {
         ensures { TakesOn self (inc_id piece.id part.from) (part.to - part.from) result }
     {
         if part.from < part.to {
-            let id = piece.id.inc(part.from);
-            let next = Target {
-                id: id,
+            self.on(Target {
+                id: piece.id.inc(part.from),
                 len: part.to - part.from,
-            };
-            self.on(next)
+            })
         } else {
             self
         }
@@ -84,8 +74,7 @@ impl Taken {
         requires { LastOk self.last × (ids_most self ≤ UNITS) }
         ensures { result ≡ ranges_with self [] }
     {
-        let last = self.last;
-        match last {
+        match self.last {
             None => self.before,
             Some(_) => self.before + 1,
         }

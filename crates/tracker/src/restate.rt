@@ -12,7 +12,6 @@ ghost use Rattle.tracker.specs.Looks.{Looks, Sees, seen};
 ghost use Rattle.tracker.specs.Restate.{bare_span, bare_units, Fits, Grown, Refine};
 
 use crate::seen::seen_piece;
-use rope::change::with_state;
 use rope::stream::push;
 use span::span::FugueSpan;
 use span::status::Status;
@@ -20,8 +19,11 @@ use span::status::Status;
 pub fn bare(row: FugueSpan) -> FugueSpan
     ensures { result ≡ bare_span row }
 {
-    let real = row.real_id;
-    with_state(row, Status::default(), None, real)
+    FugueSpan {
+        status: Status::default(),
+        diff_status: None,
+        ..row
+    }
 }
 
 // The rows without their statuses, joined again: never more of them. The answer is their number.
@@ -30,11 +32,9 @@ pub fn bare_rows(s: &mut [u8], n: usize) -> usize
     ensures { (rows result s.new ≡ join (bare_units (expand (rows n s.old)))) × (result ≤ n) }
 {
     let mut w = 0;
-    let mut i = 0;
-    while i < n {
+    for i in 0..n {
         let row = store::get_row(s, i);
         w = push(s, w, bare(row));
-        i += 1;
     }
     w
 }
@@ -57,17 +57,12 @@ pub fn grow(s: &mut [u8], w: usize, y: FugueSpan) -> usize
     if 0 < w {
         let left = store::get_row(s, w - 1);
         if left.can_merge(y) {
-            let both = left.joined(y);
-            store::put_row(s, w - 1, both);
-            w
-        } else {
-            store::put_row(s, w, y);
-            w + 1
+            store::put_row(s, w - 1, left.joined(y));
+            return w;
         }
-    } else {
-        store::put_row(s, w, y);
-        w + 1
     }
+    store::put_row(s, w, y);
+    w + 1
 }
 
 // The units of a row, seen, go after the first w rows. The answer is the number of these.
@@ -116,11 +111,9 @@ pub fn refine(
     ensures { rows k s.new ≡ join (seen both (pairs ka a.now) (pairs kb b.now) (held h e.now t.now) (expand (drop from (rows k s.old)))) }
 {
     let mut w = 0;
-    let mut i = from;
-    while i < k {
+    for i in from..k {
         let row = store::get_row(s, i);
         w = push_seen(s, w, row, e, h, t, a, ka, b, kb, both);
-        i += 1;
     }
 }
 

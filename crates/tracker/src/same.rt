@@ -14,48 +14,20 @@ ghost use Rattle.tracker.specs.Made.{makes, made_in, FineAct, AllFine, all_made,
 
 use crate::row::{Does, Head, get_head};
 use rope::check::units;
-use rope::find::{offset_of};
+use rope::find::offset_of;
 use span::chunk::RichtextChunk;
 use span::ids::{Id, UNKNOWN_PEER};
-use span::span::{FugueSpan};
+use span::span::FugueSpan;
 use store::limits::UNITS;
 
-// Whether two units have one real id, which is free for the placeholder's.
-fn same_real(u: FugueSpan, v: FugueSpan) -> bool
-    ensures { result ≡ (u.id.peer == UNKNOWN_PEER || same_opt u.real_id v.real_id) }
-{
-    let a = u.real_id;
-    let b = v.real_id;
-    if u.id.peer == UNKNOWN_PEER {
-        true
-    } else {
-        a.same(b)
-    }
-}
-
-fn same_chunk(a: RichtextChunk, b: RichtextChunk) -> bool
-    ensures { result ≡ (a.start == b.start && a.end == b.end) }
-{
-    a.start == b.start && a.end == b.end
-}
-
-// Whether two units are the same.
+// Whether two units are the same. The real id of a placeholder's is free.
 fn same_unit(u: FugueSpan, v: FugueSpan) -> bool
     ensures { result ≡ same_unit u v }
 {
-    if u.id.same(v.id) {
-        if u.lamport == v.lamport {
-            if same_chunk(u.content, v.content) {
-                same_real(u, v)
-            } else {
-                false
-            }
-        } else {
-            false
-        }
-    } else {
-        false
-    }
+    u.id == v.id
+        && u.lamport == v.lamport
+        && u.content == v.content
+        && (u.id.peer == UNKNOWN_PEER || u.real_id == v.real_id)
 }
 
 // Unit k of a span.
@@ -66,28 +38,19 @@ fn unit(x: FugueSpan, k: u32) -> FugueSpan
     x.piece(k, k + 1)
 }
 
-fn least(a: u32, b: u32) -> u32
-    ensures { result ≡ min a b }
-{
-    if a < b { a } else { b }
-}
-
 // How many units of a row from unit k on are units of x.
 fn reach(row: FugueSpan, k: u32, x: FugueSpan) -> u32
     requires { (span_code row ≡ 0) × (k < len_span row) × (span_code x ≡ 0) }
     ensures { Meets row k (units_of x) result }
 {
     let u = unit(row, k);
-    let id = u.id;
-    match offset_of(x, Some(id)) {
-        None => 0,
-        Some(d) => {
-            if same_unit(u, unit(x, d)) {
-                least(row.rle_len() - k, x.rle_len() - d)
-            } else {
-                0
-            }
-        }
+    let Some(d) = offset_of(x, Some(u.id)) else {
+        return 0;
+    };
+    if same_unit(u, unit(x, d)) {
+        (row.rle_len() - k).min(x.rle_len() - d)
+    } else {
+        0
     }
 }
 
@@ -96,10 +59,10 @@ fn reach_new(row: FugueSpan, k: u32, id: Id, lamport: u32, c: RichtextChunk) -> 
     requires { (span_code row ≡ 0) × (k < len_span row) × (span_code (new_span id lamport c) ≡ 0) }
     ensures { Meets row k (units_of (new_span id lamport c)) result }
 {
-    match FugueSpan::new(id, lamport, c) {
-        Ok(x) => reach(row, k, x),
-        Err(_) => 0,
-    }
+    let Ok(x) = FugueSpan::new(id, lamport, c) else {
+        return 0;
+    };
+    reach(row, k, x)
 }
 
 // The edit in row i.
@@ -107,8 +70,7 @@ fn head_at(e: &[u8], i: usize) -> Head
     requires { i * 256 + 256 ≤ length e.now }
     ensures { to_edit result (context_in (drop (i * 256) e.now)) ≡ edit_in (drop (i * 256) e.now) }
 {
-    let from = i * 256;
-    get_head(&e[from..])
+    get_head(&e[i * 256..])
 }
 
 // The same of what the edit in row i makes.
@@ -117,10 +79,8 @@ fn reach_edit(row: FugueSpan, k: u32, e: &[u8], i: usize) -> u32
     ensures { Meets row k (act_units (edit_in (drop (i * 256) e.now)).act (edit_in (drop (i * 256) e.now))) result }
 {
     let head = head_at(e, i);
-    let id = head.id;
-    let act = head.act;
-    match act {
-        Does::Insert(lamport, c) => reach_new(row, k, id, lamport, c),
+    match head.act {
+        Does::Insert(lamport, c) => reach_new(row, k, head.id, lamport, c),
         Does::Delete(_, _, _) => 0,
     }
 }
@@ -130,13 +90,11 @@ fn reach_edits(row: FugueSpan, k: u32, e: &[u8], h: usize) -> u32
     requires { (span_code row ≡ 0) × (k < len_span row) × (h * 256 ≤ length e.now) × AllFine h e.now }
     ensures { Meets row k (makes h e.now) result }
 {
-    let mut i = 0;
-    while i < h {
+    for i in 0..h {
         let r = reach_edit(row, k, e, i);
         if r != 0 {
             return r;
         }
-        i += 1;
     }
     0
 }
@@ -178,7 +136,7 @@ fn row_made(row: FugueSpan, e: &[u8], h: usize, p: u32) -> bool
     ensures { result ≡ all_made (made_in p h e.now) (units_of row) }
 {
     let n = row.rle_len();
-    let mut k: u32 = 0;
+    let mut k = 0;
     while k < n {
         let r = reach_made(row, k, e, h, p);
         if r == 0 {
@@ -194,12 +152,10 @@ fn rows_made(s: &[u8], n: usize, e: &[u8], h: usize, p: u32) -> bool
     requires { (n * 72 ≤ length s.now) × AllOk (rows n s.now) × (h * 256 ≤ length e.now) × AllFine h e.now × (p ≤ 65536) }
     ensures { result ≡ all_made (made_in p h e.now) (expand (rows n s.now)) }
 {
-    let mut i = 0;
-    while i < n {
+    for i in 0..n {
         if !row_made(store::get_row(s, i), e, h, p) {
             return false;
         }
-        i += 1;
     }
     true
 }
@@ -209,9 +165,7 @@ fn made_len(e: &[u8], i: usize) -> u32
     requires { i * 256 + 256 ≤ length e.now }
     ensures { result ≡ length (act_units (edit_in (drop (i * 256) e.now)).act (edit_in (drop (i * 256) e.now))) }
 {
-    let head = head_at(e, i);
-    let act = head.act;
-    match act {
+    match head_at(e, i).act {
         Does::Insert(_, c) => c.len(),
         Does::Delete(_, _, _) => 0,
     }
@@ -222,11 +176,9 @@ fn sum_made(e: &[u8], h: usize) -> u64
     requires { (h * 256 ≤ length e.now) × (h ≤ EDITS) }
     ensures { (result ≡ length (makes h e.now)) × (result ≤ 8589934590000) }
 {
-    let mut i = 0;
     let mut sum = 0;
-    while i < h {
-        sum += made_len(e, i) as u64;
-        i += 1;
+    for i in 0..h {
+        sum += u64::from(made_len(e, i));
     }
     sum
 }
@@ -236,11 +188,7 @@ pub fn same_units(s: &[u8], n: usize, e: &[u8], h: usize, placeholder: u64) -> b
     requires { Stored n s.now × (h * 256 ≤ length e.now) × (h ≤ EDITS) × ((t : List ℕ) → edits_fit [] (held h e.now t) ≡ true) }
     ensures { (t : List ℕ) → result ≡ same_units (expand (rows n s.now)) ((start placeholder).list ++ edit_units (held h e.now t)) }
 {
-    if (UNITS as u64) < placeholder {
-        return false;
-    }
-    if units(s, n) as u64 != placeholder + sum_made(e, h) {
-        return false;
-    }
-    rows_made(s, n, e, h, placeholder as u32)
+    placeholder <= UNITS as u64
+        && units(s, n) as u64 == placeholder + sum_made(e, h)
+        && rows_made(s, n, e, h, placeholder as u32)
 }

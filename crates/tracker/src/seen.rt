@@ -15,9 +15,9 @@ ghost use Rattle.tracker.specs.Takes.{ids_taken};
 ghost use Rattle.tracker.specs.Ahead.{Place, Next};
 
 use crate::look::status_run;
-use crate::range::{Taken};
+use crate::range::Taken;
 use rope::apply::{keep_last, push_row};
-use rope::change::{Change, Delete, with_state};
+use rope::change::{Change, Delete};
 use rope::seek::active_of;
 use rope::stream::push;
 use span::span::FugueSpan;
@@ -36,9 +36,11 @@ pub fn part_with(row: FugueSpan, from: u32, len: u32, status: Status, diff: Opti
     requires { (span_code row ≡ 0) × (0 < len) × (from + len ≤ len_span row) }
     ensures { result ≡ with_state (part_span row from (from + len)) status diff (part_span row from (from + len)).real_id }
 {
-    let piece = row.piece(from, from + len);
-    let real = piece.real_id;
-    with_state(piece, status, diff, real)
+    FugueSpan {
+        status,
+        diff_status: diff,
+        ..row.piece(from, from + len)
+    }
 }
 
 // The units of a row from `from` on that have one status, as a span with it.
@@ -59,13 +61,11 @@ pub fn seen_piece(
 {
     let id = row.id.inc(from);
     let first = status_run(e, h, t, a, ka, id, row.rle_len() - from);
-    let status = first.status;
     if both {
         let second = status_run(e, h, t, b, kb, id, first.len);
-        let other = second.status;
-        part_with(row, from, second.len, status, Some(other))
+        part_with(row, from, second.len, first.status, Some(second.status))
     } else {
-        part_with(row, from, first.len, status, None)
+        part_with(row, from, first.len, first.status, None)
     }
 }
 
@@ -92,13 +92,13 @@ pub fn next_piece(
     let to = from + piece.rle_len();
     if to < row.rle_len() {
         Step {
-            piece: piece,
+            piece,
             row: i,
             from: to,
         }
     } else {
         Step {
-            piece: piece,
+            piece,
             row: i + 1,
             from: 0,
         }
@@ -126,8 +126,7 @@ pub fn shown_seen(
     let mut sum = 0;
     while i < n {
         let step = next_piece(s, n, i, from, e, h, t, a, ka, b, kb, both);
-        let piece = step.piece;
-        sum += active_of(piece);
+        sum += active_of(step.piece);
         i = step.row;
         from = step.from;
     }
@@ -157,8 +156,7 @@ pub fn count_seen_with(
     let mut m = 0;
     while i < n {
         let step = next_piece(s, n, i, from, e, h, t, a, ka, b, kb, both);
-        let piece = step.piece;
-        m = push(q, m, piece);
+        m = push(q, m, step.piece);
         let k = keep_last(q, m);
         gone += k;
         m -= k;
@@ -210,9 +208,8 @@ pub fn count_deleted_with(
     let mut m = 0;
     while i < n {
         let step = next_piece(s, n, i, from, e, h, t, a, ka, a, ka, false);
-        let piece = step.piece;
-        m = push_row(q, m, Change::Delete(left), piece);
-        left = left.after(piece);
+        m = push_row(q, m, Change::Delete(left), step.piece);
+        left = left.after(step.piece);
         let k = keep_last(q, m);
         gone += k;
         m -= k;
@@ -263,10 +260,9 @@ pub fn count_targets(
     };
     while i < n {
         let step = next_piece(s, n, i, from, e, h, t, a, ka, a, ka, false);
-        let piece = step.piece;
-        let part = left.cut(piece);
-        ranges = ranges.on_part(piece, part);
-        left = left.after(piece);
+        let part = left.cut(step.piece);
+        ranges = ranges.on_part(step.piece, part);
+        left = left.after(step.piece);
         i = step.row;
         from = step.from;
     }

@@ -13,7 +13,7 @@ ghost use Rattle.tracker.specs.Rows.{to_act, to_range, ranges, took_in, edit_in,
 ghost use Rattle.tracker.specs.Follow.{ids_in, ids_of, in_order, runs_into, well_ranges, took_fits, Walks};
 
 use crate::row::{Does, Target, get_head, get_target, get_took};
-use rope::find::{offset_of};
+use rope::find::offset_of;
 use span::span::FugueSpan;
 
 // How many ids of a range are found, and how many units of a row are passed.
@@ -31,17 +31,8 @@ fn walk(row: FugueSpan, k: u32, r: Target, o: u32) -> Walked
     let x = r.id.inc(o);
     let n = row.rle_len();
     match offset_of(row, Some(x)) {
-        None => Walked {
-            found: o,
-            passed: n,
-        },
-        Some(d) => {
-            if d < k {
-                Walked {
-                    found: o,
-                    passed: n,
-                }
-            } else if r.len - o <= n - d {
+        Some(d) if k <= d => {
+            if r.len - o <= n - d {
                 Walked {
                     found: r.len,
                     passed: d + (r.len - o),
@@ -53,6 +44,10 @@ fn walk(row: FugueSpan, k: u32, r: Target, o: u32) -> Walked
                 }
             }
         }
+        _ => Walked {
+            found: o,
+            passed: n,
+        },
     }
 }
 
@@ -62,9 +57,9 @@ fn follows(s: &[u8], n: usize, t: &[u8], m: usize) -> bool
     ensures { result ≡ in_order (ids_in (ranges m t.now)) (ids_of (expand (rows n s.now))) }
 {
     let mut i = 0;
-    let mut k: u32 = 0;
+    let mut k = 0;
     let mut j = 0;
-    let mut o: u32 = 0;
+    let mut o = 0;
     while j < m {
         if n <= i {
             return false;
@@ -89,12 +84,7 @@ fn runs_into(t: &[u8], m: usize, j: usize, r: Target) -> bool
     requires { (m * 16 ≤ length t.now) × (j < m) × (room_of r.id r.len ≡ true) }
     ensures { result ≡ runs_into (to_range r) (drop (j + 1) (ranges m t.now)) }
 {
-    if j + 1 < m {
-        let x = r.id.inc(r.len);
-        x.same(get_target(t, j + 1).id)
-    } else {
-        false
-    }
+    j + 1 < m && r.id.inc(r.len) == get_target(t, j + 1).id
 }
 
 // Whether m ranges are not empty, have room, and do not go on in the next one.
@@ -102,19 +92,11 @@ fn well_ranges(t: &[u8], m: usize) -> bool
     requires { m * 16 ≤ length t.now }
     ensures { result ≡ well_ranges (ranges m t.now) }
 {
-    let mut j = 0;
-    while j < m {
+    for j in 0..m {
         let r = get_target(t, j);
-        if r.len == 0 {
+        if r.len == 0 || !r.id.has_room(r.len) || runs_into(t, m, j, r) {
             return false;
         }
-        if !r.id.has_room(r.len) {
-            return false;
-        }
-        if runs_into(t, m, j, r) {
-            return false;
-        }
-        j += 1;
     }
     true
 }
@@ -124,11 +106,9 @@ fn sum_ranges(t: &[u8], m: usize) -> u64
     requires { (m * 16 ≤ length t.now) × (m ≤ 65536) }
     ensures { result ≡ total (ranges m t.now) }
 {
-    let mut j = 0;
     let mut sum = 0;
-    while j < m {
-        sum += get_target(t, j).len as u64;
-        j += 1;
+    for j in 0..m {
+        sum += u64::from(get_target(t, j).len);
     }
     sum
 }
@@ -138,13 +118,7 @@ fn took_fits(s: &[u8], n: usize, t: &[u8], m: usize, act: Does) -> bool
     requires { Stored n s.now × (m * 16 ≤ length t.now) × (m ≤ 65536) }
     ensures { result ≡ took_fits (expand (rows n s.now)) (to_act act) (ranges m t.now) }
 {
-    if sum_ranges(t, m) != length_of(act) {
-        return false;
-    }
-    if !well_ranges(t, m) {
-        return false;
-    }
-    follows(s, n, t, m)
+    sum_ranges(t, m) == length_of(act) && well_ranges(t, m) && follows(s, n, t, m)
 }
 
 // How many units a delete takes; an insert takes none.
@@ -153,7 +127,7 @@ fn length_of(act: Does) -> u64
 {
     match act {
         Does::Insert(_, _) => 0,
-        Does::Delete(n, _, _) => n as u64,
+        Does::Delete(n, _, _) => u64::from(n),
     }
 }
 
@@ -162,8 +136,7 @@ fn took_fits_at(s: &[u8], n: usize, t: &[u8], at: usize, m: usize, act: Does) ->
     requires { Stored n s.now × ((at + m) * 16 ≤ length t.now) × (m ≤ 65536) }
     ensures { result ≡ took_fits (expand (rows n s.now)) (to_act act) (ranges m (drop (at * 16) t.now)) }
 {
-    let start = at * 16;
-    took_fits(s, n, &t[start..], m, act)
+    took_fits(s, n, &t[at * 16..], m, act)
 }
 
 // What the edit in row i does, and how many target ranges it has.
@@ -171,17 +144,14 @@ pub(crate) fn act_at(e: &[u8], i: usize) -> Does
     requires { i * 256 + 256 ≤ length e.now }
     ensures { to_act result ≡ (edit_in (drop (i * 256) e.now)).act }
 {
-    let from = i * 256;
-    let head = get_head(&e[from..]);
-    head.act
+    get_head(&e[i * 256..]).act
 }
 
 pub(crate) fn took_at(e: &[u8], i: usize) -> u32
     requires { i * 256 + 256 ≤ length e.now }
     ensures { result ≡ took_in (drop (i * 256) e.now) }
 {
-    let from = i * 256;
-    get_took(&e[from..])
+    get_took(&e[i * 256..])
 }
 
 // Whether every edit's targets fit the list. That the ranges are so many is what `check` asks first.
@@ -189,16 +159,13 @@ pub fn targets_fit(s: &[u8], n: usize, e: &[u8], h: usize, t: &[u8]) -> bool
     requires { Stored n s.now × (h * 256 ≤ length e.now) × (used h e.now * 16 ≤ length t.now) × (used h e.now ≤ ROWS) }
     ensures { result ≡ every (targets_fit (expand (rows n s.now))) (held h e.now t.now) }
 {
-    let mut i = 0;
     let mut at = 0;
-    while i < h {
+    for i in 0..h {
         let m = took_at(e, i) as usize;
-        let act = act_at(e, i);
-        if !took_fits_at(s, n, t, at, m, act) {
+        if !took_fits_at(s, n, t, at, m, act_at(e, i)) {
             return false;
         }
         at += m;
-        i += 1;
     }
     true
 }

@@ -20,23 +20,17 @@ pub fn add_target(t: &mut [u8], at: usize, k: usize, x: Target) -> usize
     let end = at + k;
     if 0 < k {
         let last = get_target(t, end - 1);
-        let id = last.id;
-        let next = id.inc(last.len);
-        if next.same(x.id) {
+        if last.id.inc(last.len) == x.id {
             let both = Target {
-                id: id,
                 len: last.len + x.len,
+                ..last
             };
             put_target(t, end - 1, both);
-            k
-        } else {
-            put_target(t, end, x);
-            k + 1
+            return k;
         }
-    } else {
-        put_target(t, end, x);
-        k + 1
     }
+    put_target(t, end, x);
+    k + 1
 }
 
 // The ids of the units from..to of a row, if there are any.
@@ -45,9 +39,8 @@ pub fn add_part(t: &mut [u8], at: usize, k: usize, row: FugueSpan, from: u32, to
     ensures { Added at k (part_range row from to) result t.old t.new }
 {
     if from < to {
-        let first = row.id.inc(from);
         let part = Target {
-            id: first,
+            id: row.id.inc(from),
             len: to - from,
         };
         add_target(t, at, k, part)
@@ -62,14 +55,12 @@ pub fn put_targets(s: &[u8], n: usize, t: &mut [u8], at: usize, d: Delete) -> us
     ensures { Wrote at (targets_of d (expand (rows n s.now))) result t.old t.new }
 {
     let mut left = d;
-    let mut i = 0;
     let mut k = 0;
-    while i < n {
+    for i in 0..n {
         let row = store::get_row(s, i);
         let part = left.cut(row);
         k = add_part(t, at, k, row, part.from, part.to);
         left = left.after(row);
-        i += 1;
     }
     k
 }
