@@ -1,6 +1,8 @@
 -- The delta of a history in lent bytes: its number, what each step asks, and what it leaves in the list and in the columns. Assumes nothing.
-use Rattle.std.specs.Prelude.{ℕ, ◌≤◌, ◌≡◌, true, false, ◌&&◌, List, length, drop}
+use Rattle.std.specs.Prelude.{ℕ, ◌≤◌, ◌≡◌, true, false, ◌&&◌, List, length, drop, Result, IfOk}
 use Rattle.span.specs.declared.span.FugueSpan.{FugueSpan}
+use Rattle.span.specs.declared.refusal.Refusal.{Refusal}
+use Rattle.span.specs.Refusal.{code_of}
 use Rattle.span.specs.Units.{expand, join}
 use Rattle.store.specs.Header.{room, spans_of}
 use Rattle.rope.specs.Maybe.{DiffAnswer}
@@ -71,6 +73,6 @@ pub record Done (s t e : List ℕ) (ka : ℕ) (a : List ℕ) (kb : ℕ) (b : Lis
   pub asks : Between r.rows r.both r.one s r.edits (drop 64 e) t ka a kb b
   pub diff : diff_rows_code most (both_of r.edits (drop 64 e) t ka a kb b (spans_of s)) ≡ 0
 
-pub record Readied (s t e : List ℕ) (ka : ℕ) (a : List ℕ) (kb : ℕ) (b : List ℕ) (most : ℕ) (r : Ready) : Type 0 where
-  pub number : r.code ≡ delta_number s t e most (version_in ka a) (version_in kb b)
-  pub done : r.code ≡ 0 → Done s t e ka a kb b most r
+pub record Readied (s t e : List ℕ) (ka : ℕ) (a : List ℕ) (kb : ℕ) (b : List ℕ) (most : ℕ) (r : Result Ready Refusal) : Type 0 where
+  pub number : code_of r ≡ delta_number s t e most (version_in ka a) (version_in kb b)
+  pub done : IfOk r (Done s t e ka a kb b most)
