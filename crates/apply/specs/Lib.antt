@@ -1,3 +1,4 @@
+pub mod Maybe
 pub mod Apply
 pub mod Items
 pub mod Given

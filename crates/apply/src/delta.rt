@@ -2,6 +2,7 @@
 ghost use Rattle.std.specs.Prelude.{◌≡◌, ◌+◌, ◌*◌, ◌≤◌, length, drop, nat_le};
 ghost use Rattle.words.specs.Le.{put};
 ghost use Rattle.span.specs.Answer.{lower};
+ghost use Rattle.span.specs.Refusal.{code_of};
 ghost use Rattle.span.specs.Units.{tab};
 ghost use Rattle.rope.specs.Columns.{Hold};
 ghost use Rattle.apply.specs.Apply.{used, applied, apply_code};
@@ -14,45 +15,41 @@ use crate::item::{Item, copy_items, get_item, put_units};
 use rope::diff::shortest;
 use span::chunk::RichtextChunk;
 use span::ids::Id;
+use span::refusal::Refusal;
 use span::span::FugueSpan;
 use span::status::Status;
 use units::diff::Entry;
 
 // ---- Refusals
 
-// The lower of two refusals, where 0 is none.
-fn lower(x: u8, y: u8) -> u8
-    ensures { result ≡ lower x y }
+// The one of two outcomes that counts: a refusal before none, and of two refusals the lower number.
+fn lower(x: Result<(), Refusal>, y: Result<(), Refusal>) -> Result<(), Refusal>
+    ensures { code_of result ≡ lower (code_of x) (code_of y) }
 {
-    if x == 0 {
-        y
-    } else if y == 0 {
-        x
-    } else if x < y {
-        x
-    } else {
-        y
+    match (x, y) {
+        (Ok(()), _) => y,
+        (_, Ok(())) => x,
+        (Err(a), Err(b)) => { if a.number() < b.number() { x } else { y } }
     }
 }
 
-// The refusal that an old unit itself gives, or 0.
-fn check_item(x: Item) -> u8
-    ensures { result ≡ item_code x }
+// What refuses an old unit itself.
+fn check_item(x: Item) -> Result<(), Refusal>
+    ensures { code_of result ≡ item_code x }
 {
-    if x.content.is_formed() {
-        let len = x.content.len();
-        if x.id.has_room(len) {
-            if len == 1 { 0 } else { 14 }
-        } else {
-            2
-        }
+    x.content.check()?;
+    let len = x.content.len();
+    if !x.id.has_room(len) {
+        Err(Refusal::Id)
+    } else if len != 1 {
+        Err(Refusal::Mismatch)
     } else {
-        1
+        Ok(())
     }
 }
 
 // The lowest refusal among the first n entries. The caller takes n from the shortest column.
-fn entries_code(
+fn check_entries(
     kind: &[u8],
     a: &[u32],
     b: &[u32],
@@ -60,34 +57,28 @@ fn entries_code(
     counter: &[u32],
     lamport: &[u32],
     n: usize,
-) -> u8
+) -> Result<(), Refusal>
     requires { Hold n kind.now a.now b.now peer.now counter.now lamport.now }
-    ensures { result ≡ lowest given_code (tab (given_at kind.now a.now b.now peer.now counter.now lamport.now) 0 n) }
+    ensures { code_of result ≡ lowest given_code (tab (given_at kind.now a.now b.now peer.now counter.now lamport.now) 0 n) }
 {
-    let mut i = n;
-    let mut code = 0;
-    while 0 < i {
-        i -= 1;
-        code = lower(
-            check_given(given_at(kind, a, b, peer, counter, lamport, i)),
-            code,
-        );
+    let mut outcome = Ok(());
+    for i in 0..n {
+        let entry = given_at(kind, a, b, peer, counter, lamport, i);
+        outcome = lower(outcome, check_given(entry));
     }
-    code
+    outcome
 }
 
 // The lowest refusal among the first n items. The caller counts the rows that fit.
-fn items_code(s: &[u8], n: usize) -> u8
+fn check_items(s: &[u8], n: usize) -> Result<(), Refusal>
     requires { n * 24 ≤ length s.now }
-    ensures { result ≡ lowest item_code (tab (item_in s.now) 0 n) }
+    ensures { code_of result ≡ lowest item_code (tab (item_in s.now) 0 n) }
 {
-    let mut i = n;
-    let mut code = 0;
-    while 0 < i {
-        i -= 1;
-        code = lower(check_item(get_item(s, i)), code);
+    let mut outcome = Ok(());
+    for i in 0..n {
+        outcome = lower(outcome, check_item(get_item(s, i)));
     }
-    code
+    outcome
 }
 
 // Whether the first n entries use no more than `have` old units; n as above. It stops at the first that does not fit, so that no sum grows too large.
@@ -104,15 +95,13 @@ fn used_fits(
     requires { Hold n kind.now a.now b.now peer.now counter.now lamport.now }
     ensures { result ≡ nat_le (used (tab (given_at kind.now a.now b.now peer.now counter.now lamport.now) 0 n)) have }
 {
-    let mut i = 0;
     let mut left = have;
-    while i < n {
+    for i in 0..n {
         let t = takes(given_at(kind, a, b, peer, counter, lamport, i));
         if left < t {
             return false;
         }
         left -= t;
-        i += 1;
     }
     true
 }
@@ -132,10 +121,9 @@ fn new_fits(
     requires { Hold n kind.now a.now b.now peer.now counter.now lamport.now × (used (tab (given_at kind.now a.now b.now peer.now counter.now lamport.now) 0 n) ≤ have) }
     ensures { result ≡ nat_le (new_len (tab (given_at kind.now a.now b.now peer.now counter.now lamport.now) 0 n) have) room }
 {
-    let mut i = 0;
     let mut left = have;
     let mut free = room;
-    while i < n {
+    for i in 0..n {
         let g = given_at(kind, a, b, peer, counter, lamport, i);
         let m = gives(g);
         if free < m {
@@ -143,14 +131,13 @@ fn new_fits(
         }
         free -= m;
         left -= takes(g);
-        i += 1;
     }
     left <= free
 }
 
-// The number of the call: the lowest of all that refuse an entry or an old unit, 14 for too few old units, 13 last. The caller takes n from the
-// shortest column.
-fn apply_code(
+// What refuses the call: the lowest of all that refuse an entry or an old unit, then too few old units, then too little room. The caller takes n
+// from the shortest column.
+fn check_apply(
     kind: &[u8],
     a: &[u32],
     b: &[u32],
@@ -160,26 +147,22 @@ fn apply_code(
     n: usize,
     old: &[u8],
     out: &[u8],
-) -> u8
+) -> Result<(), Refusal>
     requires { Hold n kind.now a.now b.now peer.now counter.now lamport.now }
-    ensures { result ≡ apply_code (items_in out.now) (tab (given_at kind.now a.now b.now peer.now counter.now lamport.now) 0 n) (items_in old.now) }
+    ensures { code_of result ≡ apply_code (items_in out.now) (tab (given_at kind.now a.now b.now peer.now counter.now lamport.now) 0 n) (items_in old.now) }
 {
     let have = old.len() / 24;
-    let code = lower(
-        entries_code(kind, a, b, peer, counter, lamport, n),
-        items_code(old, have),
-    );
-    if code != 0 {
-        return code;
-    }
+    lower(
+        check_entries(kind, a, b, peer, counter, lamport, n),
+        check_items(old, have),
+    )?;
     if !used_fits(kind, a, b, peer, counter, lamport, n, have) {
-        return 14;
+        return Err(Refusal::Mismatch);
     }
-    let room = out.len() / 24;
-    if !new_fits(kind, a, b, peer, counter, lamport, n, have, room) {
-        return 13;
+    if !new_fits(kind, a, b, peer, counter, lamport, n, have, out.len() / 24) {
+        return Err(Refusal::Output);
     }
-    0
+    Ok(())
 }
 
 // ---- The new list
@@ -189,17 +172,14 @@ fn bare(id: Id, content: RichtextChunk) -> FugueSpan
     ensures { result ≡ bare_span id content }
 {
     FugueSpan {
-        id: id,
+        id,
         lamport: 0,
         real_id: None,
-        status: Status {
-            future: false,
-            delete_times: 0,
-        },
+        status: Status::default(),
         diff_status: None,
         origin_left: None,
         origin_right: None,
-        content: content,
+        content,
     }
 }
 
@@ -209,12 +189,9 @@ fn put_given(g: Option<Entry>, old: &[u8], at: usize, out: &mut [u8], k: usize)
     ensures { out.new ≡ put (k * 24) (items_bytes (made g (drop at (items_in old.now)))) out.old }
 {
     match g {
-        Some(entry) => match entry {
-            Entry::Retain(n) => copy_items(old, at, out, k, n as usize),
-            Entry::Delete(_) => {}
-            Entry::Insert(content, id, _) => put_units(out, k, bare(id, content)),
-        },
-        None => {}
+        Some(Entry::Retain(n)) => copy_items(old, at, out, k, n as usize),
+        Some(Entry::Insert(content, id, _)) => put_units(out, k, bare(id, content)),
+        Some(Entry::Delete(_)) | None => {}
     }
 }
 
@@ -233,15 +210,13 @@ fn write_items(
     requires { Hold n kind.now a.now b.now peer.now counter.now lamport.now × Allowed (tab (given_at kind.now a.now b.now peer.now counter.now lamport.now) 0 n) (items_in old.now) (length out.old) }
     ensures { (result ≡ length (applied (tab (given_at kind.now a.now b.now peer.now counter.now lamport.now) 0 n) (items_in old.now))) × (out.new ≡ put 0 (items_bytes (applied (tab (given_at kind.now a.now b.now peer.now counter.now lamport.now) 0 n) (items_in old.now))) out.old) }
 {
-    let mut i = 0;
     let mut at = 0;
     let mut k = 0;
-    while i < n {
+    for i in 0..n {
         let g = given_at(kind, a, b, peer, counter, lamport, i);
         put_given(g, old, at, out, k);
         at += takes(g);
         k += gives(g);
-        i += 1;
     }
     let rest = old.len() / 24 - at;
     copy_items(old, at, out, k, rest);
@@ -269,10 +244,6 @@ pub fn apply(
         counter.len(),
         lamport.len(),
     );
-    let code = apply_code(kind, a, b, peer, counter, lamport, n, old, out);
-    if code == 0 {
-        Ok(write_items(kind, a, b, peer, counter, lamport, n, old, out))
-    } else {
-        Err(code)
-    }
+    check_apply(kind, a, b, peer, counter, lamport, n, old, out)?;
+    Ok(write_items(kind, a, b, peer, counter, lamport, n, old, out))
 }

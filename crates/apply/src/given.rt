@@ -1,13 +1,15 @@
 // Entries as they are handed in, in columns of numbers: what each says, what it uses and gives, and what refuses it.
 ghost use Rattle.std.specs.Prelude.{◌≡◌, ◌+◌, ◌<◌};
+ghost use Rattle.span.specs.Refusal.{code_of};
 ghost use Rattle.rope.specs.Columns.{Hold};
 ghost use Rattle.apply.specs.Apply.{lamport_fits};
 ghost use Rattle.apply.specs.Given.{insert_given, given_of, given_at, takes, gives, given_code, insert_code, len_code};
 
 use rope::diff::EntryNumbers;
 use span::chunk::RichtextChunk;
-use span::ids::Id;
-use units::diff::{Entry};
+use span::ids::{Id, real_has_room};
+use span::refusal::Refusal;
+use units::diff::Entry;
 
 // ---- What the numbers say
 
@@ -22,22 +24,17 @@ fn insert_given(w: EntryNumbers, lamport: Option<u32>) -> Option<Entry>
     Some(Entry::Insert(content, id, lamport))
 }
 
+// The entry, or none where no kind has this number.
 pub fn given_of(w: EntryNumbers) -> Option<Entry>
     ensures { result ≡ given_of w }
 {
-    if w.kind == 0 {
-        return Some(Entry::Retain(w.a));
+    match w.kind {
+        0 => Some(Entry::Retain(w.a)),
+        1 => Some(Entry::Delete(w.a)),
+        2 => insert_given(w, Some(w.lamport)),
+        3 => insert_given(w, None),
+        _ => None,
     }
-    if w.kind == 1 {
-        return Some(Entry::Delete(w.a));
-    }
-    if 3 < w.kind {
-        return None;
-    }
-    if w.kind == 2 {
-        return insert_given(w, Some(w.lamport));
-    }
-    insert_given(w, None)
 }
 
 // The entry in place i of the columns. The loops that call it stay within the shortest column.
@@ -65,43 +62,25 @@ pub fn given_at(
 
 // ---- What an entry uses and gives
 
-fn taken(g: Option<Entry>) -> u32
-    ensures { result ≡ takes g }
-{
-    match g {
-        Some(entry) => match entry {
-            Entry::Retain(n) => n,
-            Entry::Delete(n) => n,
-            Entry::Insert(_, _, _) => 0,
-        },
-        None => 0,
-    }
-}
-
-fn added(g: Option<Entry>) -> u32
-    ensures { result ≡ gives g }
-{
-    match g {
-        Some(entry) => match entry {
-            Entry::Retain(n) => n,
-            Entry::Delete(_) => 0,
-            Entry::Insert(content, _, _) => content.len(),
-        },
-        None => 0,
-    }
-}
-
-// How many old units an entry uses, and how many new ones it gives.
+// How many old units an entry uses.
 pub fn takes(g: Option<Entry>) -> usize
     ensures { (result ≡ takes g) × (result < 4294967296) }
 {
-    taken(g) as usize
+    match g {
+        Some(Entry::Retain(n) | Entry::Delete(n)) => n as usize,
+        Some(Entry::Insert(_, _, _)) | None => 0,
+    }
 }
 
+// How many new units it gives.
 pub fn gives(g: Option<Entry>) -> usize
     ensures { (result ≡ gives g) × (result < 4294967296) }
 {
-    added(g) as usize
+    match g {
+        Some(Entry::Retain(n)) => n as usize,
+        Some(Entry::Insert(content, _, _)) => content.len() as usize,
+        Some(Entry::Delete(_)) | None => 0,
+    }
 }
 
 // ---- Refusals
@@ -109,44 +88,38 @@ pub fn gives(g: Option<Entry>) -> usize
 fn lamport_fits(lamport: Option<u32>, len: u32) -> bool
     ensures { result ≡ lamport_fits lamport len }
 {
-    match lamport {
-        None => true,
-        Some(first) => first <= 4294967295 - len,
-    }
+    lamport.map_or(true, |first| first.checked_add(len).is_some())
 }
 
-fn check_insert(content: RichtextChunk, id: Id, lamport: Option<u32>) -> u8
-    ensures { result ≡ insert_code content id lamport }
+fn check_insert(content: RichtextChunk, id: Id, lamport: Option<u32>) -> Result<(), Refusal>
+    ensures { code_of result ≡ insert_code content id lamport }
 {
-    if content.is_formed() {
-        let len = content.len();
-        let real = Some(id);
-        if real.has_room(len) {
-            if lamport_fits(lamport, len) { 0 } else { 2 }
-        } else {
-            2
-        }
+    content.check()?;
+    let len = content.len();
+    if real_has_room(Some(id), len) && lamport_fits(lamport, len) {
+        Ok(())
     } else {
-        1
+        Err(Refusal::Id)
     }
 }
 
-fn check_len(n: u32) -> u8
-    ensures { result ≡ len_code n }
+fn check_len(n: u32) -> Result<(), Refusal>
+    ensures { code_of result ≡ len_code n }
 {
-    if n == 0 { 14 } else { 0 }
+    if n == 0 {
+        Err(Refusal::Mismatch)
+    } else {
+        Ok(())
+    }
 }
 
-// The refusal that an entry itself gives, or 0.
-pub fn check_given(g: Option<Entry>) -> u8
-    ensures { result ≡ given_code g }
+// What refuses an entry itself.
+pub fn check_given(g: Option<Entry>) -> Result<(), Refusal>
+    ensures { code_of result ≡ given_code g }
 {
     match g {
-        Some(entry) => match entry {
-            Entry::Retain(n) => check_len(n),
-            Entry::Delete(n) => check_len(n),
-            Entry::Insert(content, id, lamport) => check_insert(content, id, lamport),
-        },
-        None => 14,
+        Some(Entry::Retain(n) | Entry::Delete(n)) => check_len(n),
+        Some(Entry::Insert(content, id, lamport)) => check_insert(content, id, lamport),
+        None => Err(Refusal::Mismatch),
     }
 }

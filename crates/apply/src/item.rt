@@ -12,7 +12,7 @@ use span::ids::Id;
 use span::span::FugueSpan;
 
 // A unit as its real id (own id if none) and its chunk.
-#[derive(Clone, Copy)]
+#[derive(Clone, Copy, Debug, PartialEq, Eq)]
 pub struct Item {
     pub id: Id,
     pub content: RichtextChunk,
@@ -24,16 +24,11 @@ pub fn get_item(s: &[u8], i: usize) -> Item
     ensures { result ≡ item_in s.now i }
 {
     let at = i * 24;
-    let peer = words::get_u64(s, at);
-    let bits = words::get_u32(s, at + 8);
-    let start = words::get_u32(s, at + 12);
-    let end = words::get_u32(s, at + 16);
-    let id = store::id_of(peer, bits);
     Item {
-        id: id,
+        id: store::id_of(words::get_u64(s, at), words::get_u32(s, at + 8)),
         content: RichtextChunk {
-            start: start,
-            end: end,
+            start: words::get_u32(s, at + 12),
+            end: words::get_u32(s, at + 16),
         },
     }
 }
@@ -53,11 +48,9 @@ pub fn put_item(s: &mut [u8], i: usize, x: Item)
 pub fn item_of(unit: FugueSpan) -> Item
     ensures { result ≡ item_of unit }
 {
-    let id = unit.real_id();
-    let content = unit.content;
     Item {
-        id: id,
-        content: content,
+        id: unit.real_id(),
+        content: unit.content,
     }
 }
 
@@ -66,23 +59,18 @@ pub fn put_units(out: &mut [u8], k: usize, x: FugueSpan)
     requires { (span_code x ≡ 0) × ((k + len_span x) * 24 ≤ length out.old) }
     ensures { out.new ≡ put (k * 24) (items_bytes (map item_of (units_of x))) out.old }
 {
-    let len = x.rle_len();
-    let mut j = 0;
-    while j < len {
-        let unit = x.piece(j, j + 1);
-        put_item(out, k + (j as usize), item_of(unit));
-        j += 1;
+    for j in 0..x.rle_len() {
+        put_item(out, k + j as usize, item_of(x.piece(j, j + 1)));
     }
 }
 
-// The n items from row `at` of old on, from row k of the output on. Callers have counted both.
+// The n items from row `at` of old on, from row k of the output on. Callers have counted both. The rows are not copied as bytes: what stands in
+// the last four of an old row is not the new list's.
 pub fn copy_items(old: &[u8], at: usize, out: &mut [u8], k: usize, n: usize)
     requires { ((at + n) * 24 ≤ length old.now) × ((k + n) * 24 ≤ length out.old) }
     ensures { out.new ≡ put (k * 24) (items_bytes (take n (drop at (items_in old.now)))) out.old }
 {
-    let mut j = 0;
-    while j < n {
+    for j in 0..n {
         put_item(out, k + j, get_item(old, at + j));
-        j += 1;
     }
 }

@@ -13,6 +13,7 @@ ghost use Rattle.apply.specs.Called.{Called, shown_items, shown_code, visible_co
 use crate::item::put_units;
 use rope::seek::{active_of, visible};
 use rope::state::check;
+use span::refusal::Refusal;
 use span::span::FugueSpan;
 use store::header;
 
@@ -31,13 +32,11 @@ fn write_shown(s: &[u8], n: usize, out: &mut [u8])
     requires { Stored n s.now × (length (shown_items (rows n s.now)) * 24 ≤ length out.old) }
     ensures { out.new ≡ put 0 (items_bytes (shown_items (rows n s.now))) out.old }
 {
-    let mut i = 0;
     let mut k = 0;
-    while i < n {
+    for i in 0..n {
         let row = store::get_row(s, i);
         put_shown(out, k, row);
         k += active_of(row);
-        i += 1;
     }
 }
 
@@ -48,7 +47,7 @@ fn visible_rows(s: &[u8], n: usize, out: &mut [u8]) -> Result<usize, Refusal>
 {
     let many = visible(s, n);
     if out.len() / 24 < many {
-        return Err(13);
+        return Err(Refusal::Output);
     }
     write_shown(s, n, out);
     Ok(many)
@@ -59,7 +58,7 @@ pub fn visible_items(s: &[u8], out: &mut [u8]) -> Result<usize, Refusal>
     ensures { Called (visible_code s.now out.old) (shown_items (spans_of s.now)) out.old result out.new }
 {
     if !check(s) {
-        return Err(15);
+        return Err(Refusal::Store);
     }
     let n = header::count(s) as usize;
     visible_rows(&s[72..], n, out)

@@ -4,7 +4,7 @@ use Rattle.span.specs.Answer.{lower}
 use native.Mathlib.Omega.{arith}
 use mathlib.Core.Path.{ap, ◌∙◌}
 use Prim.Native.Nat.{◌-◌}
-use Rattle.apply.proofs.delta.items_code.Goals as goal
+use Rattle.apply.proofs.delta.check_items.Goals as goal
 
 pub loop-i-init : goal.loop-i-init
 loop-i-init c = (omega arith, low_start _ _ c.args.n)

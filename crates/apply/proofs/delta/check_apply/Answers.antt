@@ -8,7 +8,7 @@ use mathlib.Core.Bool.{true, false}
 use mathlib.Core.Path.{ap₂, sym, ◌∙◌}
 use mathlib.Core.Path.{ap}
 use mathlib.Core.Bool.{not}
-use Rattle.apply.proofs.delta.apply_code.Goals as goal
+use Rattle.apply.proofs.delta.check_apply.Goals as goal
 
 pub returns-then-code-ne0 : goal.returns-then-code-ne0
 returns-then-code-ne0 c = code_low (items_in c.args.out.now) (tab (given_at c.args.kind.now c.args.a.now c.args.b.now c.args.peer.now c.args.counter.now c.args.lamport.now) 0 c.args.n) (items_in c.args.old.now) _ (c.lower-code.ensures ∙ ap₂ lower c.entries_code.ensures (c.items_code.ensures ∙ items_all c.args.old.now)) c.if-code-ne0.true

@@ -3,7 +3,7 @@ use Rattle.apply.specs.Given.{item_code, lowest}
 use Rattle.span.specs.Units.{tab}
 use mathlib.Core.Path.{◌≡◌}
 use Prim.Native.Nat.{◌-◌, ◌≤◌}
-use Rattle.apply.proofs.delta.items_code.Given as goal
+use Rattle.apply.proofs.delta.check_items.Given as goal
 
 abbrev pub invariant-loop-i : goal.invariant-loop-i
 invariant-loop-i l = (l.i ≤ l.n) × (l.code ≡ lowest item_code (tab (item_in l.s) l.i (l.n - l.i)))
