@@ -11,11 +11,10 @@ use Rattle.store.specs.Row.{rows}
 use Rattle.store.specs.Header.{count, room}
 use Rattle.std.specs.Prelude.{Ok}
 use Rattle.span.specs.Refusal.{refused}
-use Rattle.rope.specs.declared.query.RealAnswer.TheVariants as Real
 use Rattle.units.specs.Place.{shown}
 use Rattle.units.specs.Query.{real_span_at}
 use Rattle.units.specs.Codes.{unless}
-use Rattle.rope.specs.Entries.{real_said}
+use Rattle.rope.specs.Entries.{real_done}
 use Rattle.rope.proofs.States.{part}
 use Rattle.rope.proofs.Entering.{rows_are}
 use Rattle.history.specs.Valid.{valid}
@@ -34,9 +33,9 @@ module _ (s t e : List ℕ) where
     unfolding len_asked
     len_none = is_refused Ok refused (ask_number s t e) 15 (shown (on_units (history_in s t e)).list) (λ z. omega (arith, z)) ask_none
 
-    pub real_none : (at : ℕ) → Real.Refused 15 ≡ real_asked s t e at
+    pub real_none : (at : ℕ) → refused 15 ≡ real_asked s t e at
     unfolding real_asked
-    real_none at = is_refused real_said Real.Refused (ask_number s t e) 15 (real_span_at (history_in s t e).list at) (λ z. omega (arith, z)) ask_none
+    real_none at = is_refused real_done refused (ask_number s t e) 15 (real_span_at (history_in s t e).list at) (λ z. omega (arith, z)) ask_none
 
   module _ (w : is_history s t e ≡ true) where
     ask_zero : ask_number s t e ≡ 0
@@ -54,6 +53,6 @@ module _ (s t e : List ℕ) where
       unfolding len_asked on_units
       len_done k q = is_done Ok refused (ask_number s t e) ask_zero (q ∙ ap (λ (l : List FugueSpan). shown (expand l)) list_is)
 
-      pub real_done : (at : ℕ) → real_said (real_span_at (rows n (part s)) at) ≡ real_asked s t e at
+      pub real_is : (at : ℕ) → real_done (real_span_at (rows n (part s)) at) ≡ real_asked s t e at
       unfolding real_asked
-      real_done at = is_done real_said Real.Refused (ask_number s t e) ask_zero (ap (λ (l : List FugueSpan). real_span_at l at) list_is)
+      real_is at = is_done real_done refused (ask_number s t e) ask_zero (ap (λ (l : List FugueSpan). real_span_at l at) list_is)

@@ -8,6 +8,7 @@ use lib.Dec.{eqb}
 use lib.ListN.{length, take, drop, length-drop}
 use lib.Seq.{take_all, drop-drop}
 use borrow.Author.Tests.{eq-eqb, ne_eqb}
+use Rattle.span.specs.Refusal.{code_of}
 use Rattle.store.specs.Header.{room}
 use Rattle.units.specs.Limits.{ROWS}
 use Rattle.units.specs.Codes.{unless, kept}
@@ -103,7 +104,7 @@ module _ (S T E : List ℕ) (n : ℕ) (b : List ℕ) where
           beside = beside_on s t e s' t' e' g.beside v.beside;
         }
 
-    pub going_stop : (w : is_history S T E ≡ true) → (c ≡ 0 → ⊥) → (r : Run) → r.taken ≡ i → r.code ≡ c → RunLeaves (edits n b) r S T E s' t' e'
+    pub going_stop : (w : is_history S T E ≡ true) → (c ≡ 0 → ⊥) → (r : Run) → r.taken ≡ i → code_of r.outcome ≡ c → RunLeaves (edits n b) r S T E s' t' e'
     unfolding run_of
     going_stop w z r et ec =
         let no : arrive_number s t e X ≡ 0 → ⊥ = λ (q : arrive_number s t e X ≡ 0). z (v.number ∙ q) in
@@ -122,7 +123,7 @@ module _ (S T E : List ℕ) (n : ℕ) (b : List ℕ) where
         whole : is_history S T E ≡ true → rest_run (room S) (target_room T) (history_in S T E) (edits n b) ≡ cond (is_history S T E) (arrive_run (room S) (target_room T) (history_in S T E) (edits n b)) (no_run (history_in S T E) (edits n b))
         whole w = sym (ap (λ (a : Bool). cond a (arrive_run (room S) (target_room T) (history_in S T E) (edits n b)) (no_run (history_in S T E) (edits n b))) w ∙ run_once (room S) (target_room T) (edits n b) (history_in S T E) (well_of S T E w).valid)
 
-  pub going_end : (w : is_history S T E ≡ true) (i : ℕ) (s t e : List ℕ) → Going i s t e → n ≤ i → (r : Run) → r.taken ≡ n → r.code ≡ 0 → RunLeaves (edits n b) r S T E s t e
+  pub going_end : (w : is_history S T E ≡ true) (i : ℕ) (s t e : List ℕ) → Going i s t e → n ≤ i → (r : Run) → r.taken ≡ n → code_of r.outcome ≡ 0 → RunLeaves (edits n b) r S T E s t e
   unfolding run_of edits
   going_end w i s t e g l r et ec =
       let q : i ≡ n = omega (arith, l, g.few) in
@@ -145,7 +146,7 @@ run_empty s t e = go (is_history s t e)
     go true = refl
     go false = refl
 
-pub batch_empty : (s t e b : List ℕ) (n : ℕ) → n ≡ length b / 256 → n ≡ 0 → (r : Run) → r.taken ≡ 0 → r.code ≡ 0 → RunLeaves (batch b) r s t e s t e
+pub batch_empty : (s t e b : List ℕ) (n : ℕ) → n ≡ length b / 256 → n ≡ 0 → (r : Run) → r.taken ≡ 0 → code_of r.outcome ≡ 0 → RunLeaves (batch b) r s t e s t e
 unfolding edits
 batch_empty s t e b n en z r et ec =
     record {
@@ -155,7 +156,7 @@ batch_empty s t e b n en z r et ec =
       beside = same_beside s t e;
     }
 
-pub batch_none : (s t e b : List ℕ) (n : ℕ) → n ≡ length b / 256 → (n ≡ 0 → ⊥) → is_history s t e ≡ false → (r : Run) → r.taken ≡ 0 → r.code ≡ 15 → RunLeaves (batch b) r s t e s t e
+pub batch_none : (s t e b : List ℕ) (n : ℕ) → n ≡ length b / 256 → (n ≡ 0 → ⊥) → is_history s t e ≡ false → (r : Run) → r.taken ≡ 0 → code_of r.outcome ≡ 15 → RunLeaves (batch b) r s t e s t e
 batch_none s t e b n en z w r et ec =
     record {
       said = ap₂ (λ (p q : ℕ). (p, q, history_in s t e)) et ec ∙ sym (some n en z);

@@ -1,5 +1,6 @@
 -- A run of edits, handed over in rows of 256 bytes as a log has them (the number of target ranges in them is not read). Assumes nothing.
 use Rattle.std.specs.Prelude.{ℕ, zero, suc, ◌/◌, ◌≡◌, Bool, true, List, [], ◌∷◌, length, drop, if◌then◌else◌}
+use Rattle.span.specs.Refusal.{code_of}
 use Rattle.store.specs.Header.{room}
 use Rattle.history.specs.Edit.{Edit, History}
 use Rattle.history.specs.Run.{arrive_run}
@@ -26,7 +27,7 @@ run_of s t e es = if is_history s t e then arrive_run (room s) (target_room t) (
 
 -- a run r of the edits es leaves s' t' e'
 pub record RunLeaves (es : List Edit) (r : Run) (s t e s' t' e' : List ℕ) : Type 0 where
-  pub said : (r.taken, r.code, history_in s' t' e') ≡ run_of s t e es
+  pub said : (r.taken, code_of r.outcome, history_in s' t' e') ≡ run_of s t e es
   pub well : is_history s t e ≡ true → is_history s' t' e' ≡ true
   pub none : r.taken ≡ 0 → (s' ≡ s) × (t' ≡ t) × (e' ≡ e)
   pub beside : Beside s t e s' t' e'

@@ -1,5 +1,6 @@
 // An edit arrives: the list goes to its context, the edit is done there, and the log has it more.
 ghost use Rattle.std.specs.Prelude.{◌≡◌, true, ◌≤◌, length};
+ghost use Rattle.span.specs.Refusal.{code_of};
 ghost use Rattle.span.specs.Units.{join};
 ghost use Rattle.store.specs.Header.{room};
 ghost use Rattle.rope.specs.Edits.{WrittenIn};
@@ -18,6 +19,7 @@ use crate::seen::count_seen;
 use crate::stand::stand;
 use crate::take::{log_edit, take_act};
 use crate::used::used_len;
+use span::refusal::Refusal;
 use store::header;
 
 // An edit arrives, with its context in two columns: peers, and counts by their bits.
@@ -28,11 +30,11 @@ pub fn arrive(
     x: Head,
     peers: &[u64],
     counts: &[u32],
-) -> u8
-    ensures { Leaves (arrive_number s.old t.old e.old (to_edit x (version_of peers.now counts.now))) (arrived s.old t.old e.old (to_edit x (version_of peers.now counts.now))) result s.old t.old e.old s.new t.new e.new }
+) -> Result<(), Refusal>
+    ensures { Leaves (arrive_number s.old t.old e.old (to_edit x (version_of peers.now counts.now))) (arrived s.old t.old e.old (to_edit x (version_of peers.now counts.now))) (code_of result) s.old t.old e.old s.new t.new e.new }
 {
     if !check(s, t, e) {
-        return 15;
+        return Err(Refusal::Store);
     }
     let mut row = [0u8; 256];
     put_edit(&mut row, x, peers, counts);
@@ -40,21 +42,17 @@ pub fn arrive(
 }
 
 // The same of an edit in a row, where the history is well formed.
-pub fn arrive_row(s: &mut [u8], t: &mut [u8], e: &mut [u8], row: &[u8]) -> u8
+pub fn arrive_row(s: &mut [u8], t: &mut [u8], e: &mut [u8], row: &[u8]) -> Result<(), Refusal>
     requires { (is_history s.old t.old e.old ≡ true) × (256 ≤ length row.now) }
-    ensures { Leaves (arrive_number s.old t.old e.old (edit_in row.now)) (arrived s.old t.old e.old (edit_in row.now)) result s.old t.old e.old s.new t.new e.new }
+    ensures { Leaves (arrive_number s.old t.old e.old (edit_in row.now)) (arrived s.old t.old e.old (edit_in row.now)) (code_of result) s.old t.old e.old s.new t.new e.new }
 {
-    let code = refuse(s, t, e, row);
-    if code != 0 {
-        return code;
-    }
+    refuse(s, t, e, row)?;
     go_to(s, t, e, row);
     let h = edit_count(e) as usize;
     let had = used_len(&e[64..], h);
-    let x = get_head(row);
-    let took = take_act(s, t, had, x);
+    let took = take_act(s, t, had, get_head(row));
     log_edit(e, h, row, took as u32);
-    0
+    Ok(())
 }
 
 // The list goes to the context of an edit that is not refused.
@@ -81,15 +79,12 @@ pub fn go_to(s: &mut [u8], t: &[u8], e: &[u8], row: &[u8])
 }
 
 // What refuses the edit of a row in a well formed history: 1, 2, 4 to 10.
-pub fn refuse(s: &[u8], t: &[u8], e: &[u8], row: &[u8]) -> u8
+pub fn refuse(s: &[u8], t: &[u8], e: &[u8], row: &[u8]) -> Result<(), Refusal>
     requires { (is_history s.now t.now e.now ≡ true) × (256 ≤ length row.now) }
-    ensures { result ≡ arrive_rest (room s.now) (target_room t.now) (history_in s.now t.now e.now) (edit_in row.now) }
+    ensures { code_of result ≡ arrive_rest (room s.now) (target_room t.now) (history_in s.now t.now e.now) (edit_in row.now) }
 {
     let h = edit_count(e) as usize;
-    let code = fit_code(&e[64..], h, row);
-    if code != 0 {
-        return code;
-    }
+    fit_code(&e[64..], h, row)?;
     let n = header::count(s) as usize;
     let m = get_pairs(row) as usize;
     let x = get_head(row);

@@ -13,36 +13,17 @@ use crate::held::edits_fit;
 use crate::open::EDIT_BYTES;
 use crate::row::{edit_count, placeholder, target_room};
 use crate::same::same_units;
-use crate::taken::{targets_fit, took_at};
+use crate::taken::targets_fit;
+use crate::used::used_len;
 use store::header;
 use store::limits::EDITS;
-
-// How many target ranges h edits have.
-fn sum_used(e: &[u8], h: usize) -> u64
-    requires { (h * 256 ≤ length e.now) × (h ≤ EDITS) }
-    ensures { result ≡ used h e.now }
-{
-    let mut i = 0;
-    let mut sum = 0;
-    while i < h {
-        sum += took_at(e, i) as u64;
-        i += 1;
-    }
-    sum
-}
 
 // Whether the edits fit each other and the list.
 fn log_fits(s: &[u8], n: usize, e: &[u8], h: usize, t: &[u8], p: u64) -> bool
     requires { Stored n s.now × (h * 256 ≤ length e.now) × (h ≤ EDITS) × (used h e.now * 16 ≤ length t.now) × (used h e.now ≤ ROWS) }
     ensures { result ≡ (edits_fit [] (held h e.now t.now) && (same_units (expand (rows n s.now)) ((start p).list ++ edit_units (held h e.now t.now)) && every (targets_fit (expand (rows n s.now))) (held h e.now t.now))) }
 {
-    if !edits_fit(e, h) {
-        return false;
-    }
-    if !same_units(s, n, e, h, p) {
-        return false;
-    }
-    targets_fit(s, n, e, h, t)
+    edits_fit(e, h) && same_units(s, n, e, h, p) && targets_fit(s, n, e, h, t)
 }
 
 // Whether the buffers hold a well formed history: spans in s, target ranges in t, edits in e.
@@ -53,14 +34,11 @@ pub fn check(s: &[u8], t: &[u8], e: &[u8]) -> bool
         return false;
     }
     let count = edit_count(e);
-    if (EDITS as u64) < count {
+    if count > EDITS as u64 {
         return false;
     }
     let h = count as usize;
-    if (target_room(t) as u64) < sum_used(&e[64..], h) {
-        return false;
-    }
-    if !rope::state::check(s) {
+    if target_room(t) < used_len(&e[64..], h) || !rope::state::check(s) {
         return false;
     }
     let n = header::count(s);

@@ -22,16 +22,11 @@ pub fn put_version(v: &mut [u8], peers: &[u64], counts: &[u32]) -> usize
     ensures { (version_in result v.new ≡ short_of peers.now counts.now) × (result ≤ 17) }
 {
     let m = peers.len();
-    if PEERS < m {
+    if PEERS < m || counts.len() != m {
         return PEERS + 1;
     }
-    if counts.len() != m {
-        return PEERS + 1;
-    }
-    let mut i = 0;
-    while i < m {
+    for i in 0..m {
         put_column(v, i, peers[i], counts[i]);
-        i += 1;
     }
     m
 }

@@ -1,6 +1,7 @@
 // What the edits held say of an edit or a version that arrives: refusals 1, 2, 4, 5, 6 and 7 of document 01. The edits are h rows from the
 // header on. No target range is read, so each contract is for every t.
 ghost use Rattle.std.specs.Prelude.{◌≡◌, true, not, ◌||◌, List, [], ℕ, ◌+◌, ◌*◌, ◌≤◌, ◌<◌, length, drop, if◌then◌else◌, nat_le, ◌==◌};
+ghost use Rattle.span.specs.Refusal.{code_of};
 ghost use Rattle.units.specs.Lists.{every};
 ghost use Rattle.store.specs.Limits.{PEERS, EDITS};
 ghost use Rattle.store.specs.Row.{bits32};
@@ -14,8 +15,9 @@ ghost use Rattle.tracker.specs.Last.{last_for, closed_last};
 use crate::act::{act_code, at_most, count_held, counter_is, end_of, less_than, size_of};
 use crate::look::edit_id;
 use crate::row::{Does, Pair, get_head, get_pair, get_pairs};
-use crate::version::{below, count_of, rising};
+use crate::version::{self, below, count_of, rising};
 use span::ids::Id;
+use span::refusal::Refusal;
 use store::limits::PEERS;
 
 // ---------------------------------------------------------------- counts
@@ -32,9 +34,7 @@ fn row_size(row: &[u8]) -> u32
     requires { 256 ≤ length row.now }
     ensures { result ≡ size (edit_in row.now) }
 {
-    let x = get_head(row);
-    let act = x.act;
-    size_of(act)
+    size_of(get_head(row).act)
 }
 
 // The counters of edit i that are the peer's.
@@ -54,11 +54,9 @@ pub fn held_count(e: &[u8], h: usize, peer: u64) -> u64
     requires { (h * 256 ≤ length e.now) × (h ≤ EDITS) }
     ensures { (t : List ℕ) → result ≡ held_count (held h e.now t) peer }
 {
-    let mut sum: u64 = 0;
-    let mut i = 0;
-    while i < h {
-        sum += own_size(e, i, peer) as u64;
-        i += 1;
+    let mut sum = 0;
+    for i in 0..h {
+        sum += u64::from(own_size(e, i, peer));
     }
     sum
 }
@@ -69,7 +67,7 @@ fn end_at(e: &[u8], i: usize) -> u64
     ensures { result ≡ bits32 (edit_in (drop (i * 256) e.now)).id.counter + size (edit_in (drop (i * 256) e.now)) }
 {
     let bits = store::counter_bits(edit_id(e, i));
-    (bits as u64) + (row_size(&e[i * 256..]) as u64)
+    u64::from(bits) + u64::from(row_size(&e[i * 256..]))
 }
 
 // The count held for a peer where the edits fit: its last edit ends there. It is looked for from the end.
@@ -77,13 +75,10 @@ fn last_count(e: &[u8], h: usize, peer: u64) -> u64
     requires { (h * 256 ≤ length e.now) × ((t : List ℕ) → edits_fit [] (held h e.now t) ≡ true) }
     ensures { (t : List ℕ) → result ≡ held_count (held h e.now t) peer }
 {
-    let mut i = h;
-    while 0 < i {
-        let k = i - 1;
-        if peer_at(e, k) == peer {
-            return end_at(e, k);
+    for i in (0..h).rev() {
+        if peer_at(e, i) == peer {
+            return end_at(e, i);
         }
-        i = k;
     }
     0
 }
@@ -105,12 +100,10 @@ pub fn has_peer(e: &[u8], h: usize, peer: u64) -> bool
     requires { (h * 256 ≤ length e.now) × (h ≤ EDITS) }
     ensures { (t : List ℕ) → result ≡ has_peer (held h e.now t) peer }
 {
-    let mut i = 0;
-    while i < h {
+    for i in 0..h {
         if peer_at(e, i) == peer {
             return true;
         }
-        i += 1;
     }
     false
 }
@@ -122,11 +115,7 @@ fn last_of_peer(e: &[u8], h: usize, i: usize) -> usize
 {
     let next = i + 1;
     let peer = peer_at(e, i);
-    if has_peer(&e[next * 256..], h - next, peer) {
-        0
-    } else {
-        1
-    }
+    usize::from(!has_peer(&e[next * 256..], h - next, peer))
 }
 
 // How many peers have edits.
@@ -135,10 +124,8 @@ pub fn peer_count(e: &[u8], h: usize) -> usize
     ensures { (t : List ℕ) → result ≡ peer_count (held h e.now t) }
 {
     let mut k = 0;
-    let mut i = 0;
-    while i < h {
+    for i in 0..h {
         k += last_of_peer(e, h, i);
-        i += 1;
     }
     k
 }
@@ -148,11 +135,7 @@ fn peer_fits(e: &[u8], h: usize, peer: u64) -> bool
     requires { (h * 256 ≤ length e.now) × (h ≤ EDITS) }
     ensures { (t : List ℕ) → result ≡ (has_peer (held h e.now t) peer || not (nat_le PEERS (peer_count (held h e.now t)))) }
 {
-    if has_peer(e, h, peer) {
-        true
-    } else {
-        peer_count(e, h) < PEERS
-    }
+    has_peer(e, h, peer) || peer_count(e, h) < PEERS
 }
 
 // ---------------------------------------------------------------- versions
@@ -161,20 +144,17 @@ fn pair_held(e: &[u8], h: usize, k: Pair, fit: bool) -> bool
     requires { (h * 256 ≤ length e.now) × (h ≤ EDITS) × (fit ≡ true → (t : List ℕ) → edits_fit [] (held h e.now t) ≡ true) }
     ensures { (t : List ℕ) → result ≡ is_held (held h e.now t) (to_count k) }
 {
-    let most = count_for(e, h, k.peer, fit);
-    count_held(k, most)
+    count_held(k, count_for(e, h, k.peer, fit))
 }
 
 fn pairs_held(e: &[u8], h: usize, v: &[u8], m: usize, fit: bool) -> bool
     requires { (h * 256 ≤ length e.now) × (h ≤ EDITS) × (m * 12 ≤ length v.now) × (fit ≡ true → (t : List ℕ) → edits_fit [] (held h e.now t) ≡ true) }
     ensures { (t : List ℕ) → result ≡ every (is_held (held h e.now t)) (pairs m v.now) }
 {
-    let mut i = 0;
-    while i < m {
+    for i in 0..m {
         if !pair_held(e, h, get_pair(v, i), fit) {
             return false;
         }
-        i += 1;
     }
     true
 }
@@ -184,11 +164,7 @@ fn named_by(e: &[u8], h: usize, v: &[u8], m: usize, fit: bool) -> bool
     requires { (h * 256 ≤ length e.now) × (h ≤ EDITS) × (m * 12 ≤ length v.now) × (fit ≡ true → (t : List ℕ) → edits_fit [] (held h e.now t) ≡ true) }
     ensures { (t : List ℕ) → result ≡ named (held h e.now t) (pairs m v.now) }
 {
-    if rising(v, m) {
-        pairs_held(e, h, v, m, fit)
-    } else {
-        false
-    }
+    rising(v, m) && pairs_held(e, h, v, m, fit)
 }
 
 pub fn named(e: &[u8], h: usize, v: &[u8], m: usize) -> bool
@@ -205,10 +181,7 @@ fn covers_act(v: &[u8], m: usize, act: Does, id: Id) -> bool
 {
     match act {
         Does::Insert(_, _) => true,
-        Does::Delete(n, _, _) => {
-            let count = count_of(v, m, id.peer);
-            at_most(end_of(id, n), count)
-        }
+        Does::Delete(n, _, _) => at_most(end_of(id, n), count_of(v, m, id.peer)),
     }
 }
 
@@ -218,11 +191,7 @@ fn covers_context(row: &[u8], v: &[u8], m: usize) -> bool
     ensures { result ≡ within (context_in row.now) (pairs m v.now) }
 {
     let k = get_pairs(row) as usize;
-    if k <= PEERS {
-        crate::version::within(&row[64..], k, v, m)
-    } else {
-        true
-    }
+    k > PEERS || version::within(&row[64..], k, v, m)
 }
 
 // Whether the edit in a row, where a version covers it even in part, has its context covered, and is covered whole if it is a delete.
@@ -231,17 +200,7 @@ fn closed_row(row: &[u8], v: &[u8], m: usize) -> bool
     ensures { result ≡ closed_for (pairs m v.now) (edit_in row.now) }
 {
     let x = get_head(row);
-    let id = x.id;
-    let act = x.act;
-    if below(v, m, id) {
-        if covers_context(row, v, m) {
-            covers_act(v, m, act, id)
-        } else {
-            false
-        }
-    } else {
-        true
-    }
+    !below(v, m, x.id) || (covers_context(row, v, m) && covers_act(v, m, x.act, x.id))
 }
 
 // 7: every edit that a version covers has its context covered too, and no delete is covered in part.
@@ -249,12 +208,10 @@ pub fn closed(e: &[u8], h: usize, v: &[u8], m: usize) -> bool
     requires { (h * 256 ≤ length e.now) × (h ≤ EDITS) × (m * 12 ≤ length v.now) }
     ensures { (t : List ℕ) → result ≡ closed (held h e.now t) (pairs m v.now) }
 {
-    let mut i = 0;
-    while i < h {
+    for i in 0..h {
         if !closed_row(&e[i * 256..], v, m) {
             return false;
         }
-        i += 1;
     }
     true
 }
@@ -265,27 +222,18 @@ fn last_row(row: &[u8], v: &[u8], m: usize) -> bool
     ensures { result ≡ last_for (pairs m v.now) (edit_in row.now) }
 {
     let x = get_head(row);
-    let id = x.id;
-    let act = x.act;
-    let count = count_of(v, m, id.peer);
-    let end = end_of(id, size_of(act));
-    if less_than(end, count) {
-        true
-    } else {
-        closed_row(row, v, m)
-    }
+    let end = end_of(x.id, size_of(x.act));
+    less_than(end, count_of(v, m, x.id.peer)) || closed_row(row, v, m)
 }
 
 fn closed_last(e: &[u8], h: usize, v: &[u8], m: usize) -> bool
     requires { (h * 256 ≤ length e.now) × (h ≤ EDITS) × (m * 12 ≤ length v.now) }
     ensures { (t : List ℕ) → result ≡ closed_last (held h e.now t) (pairs m v.now) }
 {
-    let mut i = 0;
-    while i < h {
+    for i in 0..h {
         if !last_row(&e[i * 256..], v, m) {
             return false;
         }
-        i += 1;
     }
     true
 }
@@ -302,85 +250,76 @@ fn named_closed(e: &[u8], h: usize, v: &[u8], m: usize, fit: bool) -> bool
     }
 }
 
-// 6 or 7, or 0: whether a version can be shown.
-pub fn version_code(e: &[u8], h: usize, v: &[u8], m: usize) -> u8
+// 6 or 7: whether a version can be shown.
+pub fn version_code(e: &[u8], h: usize, v: &[u8], m: usize) -> Result<(), Refusal>
     requires { (h * 256 ≤ length e.now) × (h ≤ EDITS) × (m * 12 ≤ length v.now) }
-    ensures { (t : List ℕ) → result ≡ version_code (held h e.now t) (pairs m v.now) }
+    ensures { (t : List ℕ) → code_of result ≡ version_code (held h e.now t) (pairs m v.now) }
 {
-    if named(e, h, v, m) {
-        if closed(e, h, v, m) { 0 } else { 7 }
-    } else {
-        6
+    if !named(e, h, v, m) {
+        return Err(Refusal::Version);
     }
+    if !closed(e, h, v, m) {
+        return Err(Refusal::NotClosed);
+    }
+    Ok(())
 }
 
 // ---------------------------------------------------------------- an edit
 
 // 6 and 7 of an edit whose context is v: it holds exactly the peer's own earlier counters.
-fn pairs_code(e: &[u8], h: usize, v: &[u8], m: usize, id: Id, fit: bool) -> u8
+fn pairs_code(e: &[u8], h: usize, v: &[u8], m: usize, id: Id, fit: bool) -> Result<(), Refusal>
     requires { (h * 256 ≤ length e.now) × (h ≤ EDITS) × (m * 12 ≤ length v.now) × (fit ≡ true → (t : List ℕ) → edits_fit [] (held h e.now t) ≡ true) }
-    ensures { (t : List ℕ) → result ≡ context_code (held h e.now t) (pairs m v.now) id }
+    ensures { (t : List ℕ) → code_of result ≡ context_code (held h e.now t) (pairs m v.now) id }
 {
-    if named_by(e, h, v, m, fit) {
-        let own = count_of(v, m, id.peer);
-        if counter_is(id, own as u64) {
-            if named_closed(e, h, v, m, fit) { 0 } else { 7 }
-        } else {
-            7
-        }
-    } else {
-        6
+    if !named_by(e, h, v, m, fit) {
+        return Err(Refusal::Version);
     }
+    let own = u64::from(count_of(v, m, id.peer));
+    if !counter_is(id, own) || !named_closed(e, h, v, m, fit) {
+        return Err(Refusal::NotClosed);
+    }
+    Ok(())
 }
 
-fn context_code(e: &[u8], h: usize, row: &[u8], id: Id, fit: bool) -> u8
+fn context_code(e: &[u8], h: usize, row: &[u8], id: Id, fit: bool) -> Result<(), Refusal>
     requires { (h * 256 ≤ length e.now) × (h ≤ EDITS) × (256 ≤ length row.now) × (fit ≡ true → (t : List ℕ) → edits_fit [] (held h e.now t) ≡ true) }
-    ensures { (t : List ℕ) → result ≡ context_code (held h e.now t) (context_in row.now) id }
+    ensures { (t : List ℕ) → code_of result ≡ context_code (held h e.now t) (context_in row.now) id }
 {
     let k = get_pairs(row) as usize;
-    if k <= PEERS {
-        pairs_code(e, h, &row[64..], k, id, fit)
-    } else {
-        6
+    if PEERS < k {
+        return Err(Refusal::Version);
     }
+    pairs_code(e, h, &row[64..], k, id, fit)
 }
 
-// 1, 2, 4, 5, 6 or 7, or 0: what the edits held say of the edit in a row. It is quicker if they are known to fit.
-fn row_code(e: &[u8], h: usize, row: &[u8], fit: bool) -> u8
+// 1, 2, 4, 5, 6 or 7: what the edits held say of the edit in a row. It is quicker if they are known to fit.
+fn row_code(e: &[u8], h: usize, row: &[u8], fit: bool) -> Result<(), Refusal>
     requires { (h * 256 ≤ length e.now) × (h ≤ EDITS) × (256 ≤ length row.now) × (fit ≡ true → (t : List ℕ) → edits_fit [] (held h e.now t) ≡ true) }
-    ensures { (t : List ℕ) → result ≡ edit_code (held h e.now t) (edit_in row.now) }
+    ensures { (t : List ℕ) → code_of result ≡ edit_code (held h e.now t) (edit_in row.now) }
 {
     let x = get_head(row);
-    let id = x.id;
-    let act = x.act;
-    let code = act_code(id, act);
-    if code != 0 {
-        return code;
+    act_code(x.id, x.act)?;
+    if !peer_fits(e, h, x.id.peer) {
+        return Err(Refusal::Peers);
     }
-    if peer_fits(e, h, id.peer) {
-        let count = held_count(e, h, id.peer);
-        if counter_is(id, count) {
-            context_code(e, h, row, id, fit)
-        } else {
-            5
-        }
-    } else {
-        4
+    if !counter_is(x.id, held_count(e, h, x.id.peer)) {
+        return Err(Refusal::Counter);
     }
+    context_code(e, h, row, x.id, fit)
 }
 
 // The same for any edits.
-pub fn edit_code(e: &[u8], h: usize, row: &[u8]) -> u8
+pub fn edit_code(e: &[u8], h: usize, row: &[u8]) -> Result<(), Refusal>
     requires { (h * 256 ≤ length e.now) × (h ≤ EDITS) × (256 ≤ length row.now) }
-    ensures { (t : List ℕ) → result ≡ edit_code (held h e.now t) (edit_in row.now) }
+    ensures { (t : List ℕ) → code_of result ≡ edit_code (held h e.now t) (edit_in row.now) }
 {
     row_code(e, h, row, false)
 }
 
 // The same for edits that fit: asked of a history that is well formed.
-pub fn fit_code(e: &[u8], h: usize, row: &[u8]) -> u8
+pub fn fit_code(e: &[u8], h: usize, row: &[u8]) -> Result<(), Refusal>
     requires { (h * 256 ≤ length e.now) × (h ≤ EDITS) × (256 ≤ length row.now) × ((t : List ℕ) → edits_fit [] (held h e.now t) ≡ true) }
-    ensures { (t : List ℕ) → result ≡ edit_code (held h e.now t) (edit_in row.now) }
+    ensures { (t : List ℕ) → code_of result ≡ edit_code (held h e.now t) (edit_in row.now) }
 {
     row_code(e, h, row, true)
 }
@@ -390,12 +329,10 @@ pub fn edits_fit(e: &[u8], h: usize) -> bool
     requires { (h * 256 ≤ length e.now) × (h ≤ EDITS) }
     ensures { (t : List ℕ) → result ≡ edits_fit [] (held h e.now t) }
 {
-    let mut i = 0;
-    while i < h {
-        if fit_code(e, i, &e[i * 256..]) != 0 {
+    for i in 0..h {
+        if fit_code(e, i, &e[i * 256..]).is_err() {
             return false;
         }
-        i += 1;
     }
     true
 }

@@ -1,5 +1,6 @@
 // What refuses an edit in a well formed history: all of it is asked before anything is written.
 ghost use Rattle.std.specs.Prelude.{◌≡◌, ◌+◌, ◌≤◌, length, nat_le};
+ghost use Rattle.span.specs.Refusal.{code_of};
 ghost use Rattle.span.specs.Span.{new_span, len_span};
 ghost use Rattle.span.specs.Units.{expand};
 ghost use Rattle.store.specs.Row.{rows};
@@ -18,7 +19,8 @@ use rope::check::units;
 use rope::place::len_of;
 use span::chunk::RichtextChunk;
 use span::ids::Id;
-use span::span::{FugueSpan};
+use span::refusal::Refusal;
+use span::span::FugueSpan;
 use store::limits::{EDITS, UNITS};
 
 // Whether the list at a version fits the room, and again with an insert. A list has no more rows than units: with room for these nothing is counted.
@@ -42,10 +44,7 @@ fn insert_in_rows(
         return true;
     }
     let k = count_seen(s, n, e, h, t, v, m, v, m, false);
-    if most < k {
-        return false;
-    }
-    insert_fits(s, n, e, h, t, v, m, at, x, k, most)
+    k <= most && insert_fits(s, n, e, h, t, v, m, at, x, k, most)
 }
 
 // An insert at its context: 8, 9, 10.
@@ -60,24 +59,21 @@ pub fn refuse_insert(
     at: u32,
     x: FugueSpan,
     most: usize,
-) -> u8
+) -> Result<(), Refusal>
     requires { Inserting n s.now h e.now t.now m v.now x × (n ≤ 65536) }
-    ensures { result ≡ insert_rest most h (units_seen n s.now h e.now t.now m v.now) at x }
+    ensures { code_of result ≡ insert_rest most h (units_seen n s.now h e.now t.now m v.now) at x }
 {
     if shown_seen(s, n, e, h, t, v, m, v, m, false) < at as usize {
-        return 8;
+        return Err(Refusal::Range);
     }
     if EDITS <= h {
-        return 9;
+        return Err(Refusal::Edits);
     }
     let many = units(s, n) + len_of(x);
-    if UNITS < many {
-        return 10;
+    if UNITS < many || !insert_in_rows(s, n, e, h, t, v, m, at, x, many, most) {
+        return Err(Refusal::Room);
     }
-    if !insert_in_rows(s, n, e, h, t, v, m, at, x, many, most) {
-        return 10;
-    }
-    0
+    Ok(())
 }
 
 // The same of a delete, which makes no units.
@@ -95,13 +91,9 @@ fn delete_in_rows(
     requires { Deleting n s.now h e.now t.now m v.now d × CanDelete d }
     ensures { result ≡ delete_fits most (units_seen n s.now h e.now t.now m v.now) d }
 {
-    if units(s, n) <= most {
-        return true;
-    }
-    if most < count_seen(s, n, e, h, t, v, m, v, m, false) {
-        return false;
-    }
-    count_deleted(s, n, e, h, t, v, m, d) <= most
+    units(s, n) <= most
+        || (count_seen(s, n, e, h, t, v, m, v, m, false) <= most
+            && count_deleted(s, n, e, h, t, v, m, d) <= most)
 }
 
 // Whether the target ranges that a delete takes fit the free room. They are no more than the units that it takes.
@@ -119,10 +111,7 @@ fn targets_in_room(
     requires { Deleting n s.now h e.now t.now m v.now d × CanDelete d }
     ensures { result ≡ nat_le (length (targets_of d (units_seen n s.now h e.now t.now m v.now))) free }
 {
-    if d.len as usize <= free {
-        return true;
-    }
-    count_targets(s, n, e, h, t, v, m, d) <= free
+    d.len as usize <= free || count_targets(s, n, e, h, t, v, m, d) <= free
 }
 
 // A delete at its context: 8, 9, 10.
@@ -137,24 +126,24 @@ pub fn refuse_delete(
     d: Delete,
     most: usize,
     places: usize,
-) -> u8
+) -> Result<(), Refusal>
     requires { Deleting n s.now h e.now t.now m v.now d × (used h e.now ≤ places) }
-    ensures { result ≡ delete_rest most places h (used h e.now) (units_seen n s.now h e.now t.now m v.now) d }
+    ensures { code_of result ≡ delete_rest most places h (used h e.now) (units_seen n s.now h e.now t.now m v.now) d }
 {
     if shown_seen(s, n, e, h, t, v, m, v, m, false) < d.at as usize + d.len as usize {
-        return 8;
+        return Err(Refusal::Range);
     }
     if EDITS <= h {
-        return 9;
+        return Err(Refusal::Edits);
     }
     if !delete_in_rows(s, n, e, h, t, v, m, d, most) {
-        return 10;
+        return Err(Refusal::Room);
     }
     let free = places - used_len(e, h);
     if !targets_in_room(s, n, e, h, t, v, m, d, free) {
-        return 10;
+        return Err(Refusal::Room);
     }
-    0
+    Ok(())
 }
 
 // The insert of a new span, which 1 and 2 do not refuse.
@@ -171,14 +160,12 @@ pub fn refuse_new(
     lamport: u32,
     content: RichtextChunk,
     most: usize,
-) -> u8
+) -> Result<(), Refusal>
     requires { Inserting n s.now h e.now t.now m v.now (new_span id lamport content) × (n ≤ 65536) }
-    ensures { result ≡ insert_rest most h (units_seen n s.now h e.now t.now m v.now) at (new_span id lamport content) }
+    ensures { code_of result ≡ insert_rest most h (units_seen n s.now h e.now t.now m v.now) at (new_span id lamport content) }
 {
-    match FugueSpan::new(id, lamport, content) {
-        Err(code) => code,
-        Ok(x) => refuse_insert(s, n, e, h, t, v, m, at, x, most),
-    }
+    let x = FugueSpan::new(id, lamport, content)?;
+    refuse_insert(s, n, e, h, t, v, m, at, x, most)
 }
 
 // An edit that 1 to 7 do not refuse, at its context.
@@ -193,20 +180,19 @@ pub fn refuse_act(
     x: Head,
     most: usize,
     places: usize,
-) -> u8
+) -> Result<(), Refusal>
     requires { Acting n s.now h e.now t.now m v.now x places }
-    ensures { result ≡ does_rest most places h (used h e.now) (units_seen n s.now h e.now t.now m v.now) x.id x.at x.act }
+    ensures { code_of result ≡ does_rest most places h (used h e.now) (units_seen n s.now h e.now t.now m v.now) x.id x.at x.act }
 {
-    let act = x.act;
-    match act {
+    match x.act {
         Does::Insert(lamport, content) => {
             refuse_new(s, n, e, h, t, v, m, x.at, x.id, lamport, content, most)
         }
         Does::Delete(len, _, start) => {
             let d = Delete {
                 at: x.at,
-                len: len,
-                start: start,
+                len,
+                start,
             };
             refuse_delete(s, n, e, h, t, v, m, d, most, places)
         }

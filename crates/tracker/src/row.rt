@@ -49,10 +49,7 @@ pub fn get_pair(v: &[u8], i: usize) -> Pair
     let at = i * 12;
     let peer = words::get_u64(v, at);
     let many = words::signed::get_i32(v, at + 8);
-    Pair {
-        peer: peer,
-        many: many,
-    }
+    Pair { peer, many }
 }
 
 pub fn put_pair(v: &mut [u8], i: usize, k: Pair)
@@ -73,7 +70,7 @@ pub fn get_target(t: &[u8], i: usize) -> Target
     let bits = words::get_u32(t, at + 8);
     let len = words::get_u32(t, at + 12);
     let id = store::id_of(peer, bits);
-    Target { id: id, len: len }
+    Target { id, len }
 }
 
 pub fn put_target(t: &mut [u8], i: usize, x: Target)
@@ -91,8 +88,7 @@ pub fn put_target(t: &mut [u8], i: usize, x: Target)
 pub fn target_room(t: &[u8]) -> usize
     ensures { result ≡ target_room t.now }
 {
-    let fit = t.len() / 16;
-    if fit < ROWS { fit } else { ROWS }
+    ROWS.min(t.len() / 16)
 }
 
 // What an edit does, from the words of its row.
@@ -125,8 +121,8 @@ pub fn get_head(e: &[u8]) -> Head
     let first = words::get_u32(e, 32);
     let last = words::get_u32(e, 36);
     Head {
-        id: id,
-        at: at,
+        id,
+        at,
         act: does_of(kind, lamport, first, last, target),
     }
 }
@@ -268,11 +264,7 @@ fn copy_bytes(e: &mut [u8], at: usize, x: &[u8], from: usize, n: usize)
     requires { (at + n ≤ length e.old) × (from + n ≤ length x.now) }
     ensures { e.new ≡ put at (take n (drop from x.now)) e.old }
 {
-    let mut k = 0;
-    while k < n {
-        e[at + k] = x[from + k];
-        k += 1;
-    }
+    e[at..at + n].copy_from_slice(&x[from..from + n]);
 }
 
 // The edit of the row x goes to row h, with `took` target ranges: its head anew, its pairs as they are. A version has 16 pairs at the most.

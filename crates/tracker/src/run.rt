@@ -5,12 +5,13 @@ ghost use Rattle.tracker.specs.Batches.{edits, batch, RunLeaves};
 
 use crate::arrive::arrive_row;
 use crate::check::check;
+use span::refusal::Refusal;
 
-// How many edits were taken, and the number of the one that was refused; 0 for none.
+// How many edits were taken, and what refused the one after them, if one was refused.
 #[derive(Clone, Copy)]
 pub struct Run {
     pub taken: usize,
-    pub code: u8,
+    pub outcome: Result<(), Refusal>,
 }
 
 // The edits in the rows of a batch arrive one after another, up to and including the first that is refused.
@@ -19,10 +20,16 @@ pub fn arrive_all(s: &mut [u8], t: &mut [u8], e: &mut [u8], rows: &[u8]) -> Run
 {
     let n = rows.len() / 256;
     if n == 0 {
-        return Run { taken: 0, code: 0 };
+        return Run {
+            taken: 0,
+            outcome: Ok(()),
+        };
     }
     if !check(s, t, e) {
-        return Run { taken: 0, code: 15 };
+        return Run {
+            taken: 0,
+            outcome: Err(Refusal::Store),
+        };
     }
     arrive_rows(s, t, e, rows, n)
 }
@@ -32,17 +39,14 @@ pub fn arrive_rows(s: &mut [u8], t: &mut [u8], e: &mut [u8], rows: &[u8], n: usi
     requires { (is_history s.old t.old e.old ≡ true) × (n * 256 ≤ length rows.now) }
     ensures { RunLeaves (edits n rows.now) result s.old t.old e.old s.new t.new e.new }
 {
-    let mut i = 0;
-    while i < n {
-        let at = i * 256;
-        let code = arrive_row(s, t, e, &rows[at..]);
-        if code != 0 {
-            return Run {
-                taken: i,
-                code: code,
-            };
+    for i in 0..n {
+        let outcome = arrive_row(s, t, e, &rows[i * 256..]);
+        if outcome.is_err() {
+            return Run { taken: i, outcome };
         }
-        i += 1;
     }
-    Run { taken: n, code: 0 }
+    Run {
+        taken: n,
+        outcome: Ok(()),
+    }
 }

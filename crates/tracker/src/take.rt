@@ -16,7 +16,7 @@ use rope::delete::write_delete;
 use rope::edit::insert_span;
 use span::chunk::RichtextChunk;
 use span::ids::Id;
-use span::span::{FugueSpan};
+use span::span::FugueSpan;
 use store::header;
 
 // An insert that was not refused.
@@ -24,11 +24,8 @@ pub fn take_insert(s: &mut [u8], at: u32, id: Id, lamport: u32, content: Richtex
     requires { Takes s.old at id lamport content }
     ensures { WrittenIn (insert_list s.old at (new_span id lamport content)) s.old s.new }
 {
-    match FugueSpan::new(id, lamport, content) {
-        Err(_) => {}
-        Ok(x) => {
-            insert_span(s, at, x);
-        }
+    if let Ok(x) = FugueSpan::new(id, lamport, content) {
+        let _ = insert_span(s, at, x);
     }
 }
 
@@ -48,8 +45,7 @@ pub fn take_act(s: &mut [u8], t: &mut [u8], had: usize, x: Head) -> usize
     requires { CanTake s.old t.old had x.id x.at x.act }
     ensures { WrittenIn (join (does_list x.act x.id x.at (expand (spans_of s.old)))) s.old s.new × Ranged (does_took x.act x.at (expand (spans_of s.old))) had result t.old t.new }
 {
-    let act = x.act;
-    match act {
+    match x.act {
         Does::Insert(lamport, content) => {
             take_insert(s, x.at, x.id, lamport, content);
             0
@@ -57,8 +53,8 @@ pub fn take_act(s: &mut [u8], t: &mut [u8], had: usize, x: Head) -> usize
         Does::Delete(len, _, start) => {
             let d = Delete {
                 at: x.at,
-                len: len,
-                start: start,
+                len,
+                start,
             };
             take_delete(s, t, had, d)
         }
@@ -71,5 +67,5 @@ pub fn log_edit(e: &mut [u8], h: usize, row: &[u8], took: u32)
     ensures { Logged h row.now took e.old e.new }
 {
     append_edit(&mut e[64..], h, row, took);
-    set_edit_count(e, (h as u64) + 1)
+    set_edit_count(e, h as u64 + 1)
 }

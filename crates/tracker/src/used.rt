@@ -10,11 +10,9 @@ pub fn used_len(e: &[u8], h: usize) -> usize
     requires { (h * 256 ≤ length e.now) × (h ≤ EDITS) }
     ensures { result ≡ used h e.now }
 {
-    let mut i = 0;
     let mut sum = 0;
-    while i < h {
+    for i in 0..h {
         sum += took_at(e, i) as usize;
-        i += 1;
     }
     sum
 }
