@@ -1,4 +1,3 @@
-pub mod Words
+pub mod Bytes
 pub mod Puts
 pub mod Moves
-pub mod Signs
