@@ -1,3 +1,4 @@
+pub mod Maybe
 pub mod Rows
 pub mod Looks
 pub mod Entries
