@@ -6,6 +6,7 @@ use mathlib.Core.List.{List, [], ◌∷◌}
 use native.Mathlib.Omega.{arith}
 use lib.Dec.{eqb, leb}
 use lib.ListN.{length}
+use Rattle.std.proofs.lemmas.Bool.Decides.{nat_tests}
 use borrow.Author.Tests.{eq-eqb, ne_eqb}
 use Rattle.span.specs.declared.chunk.RichtextChunk.{RichtextChunk}
 use Rattle.span.specs.declared.ids.Id.{Id}
@@ -22,7 +23,7 @@ use Rattle.rope.specs.Columns.{Hold}
 use Rattle.apply.specs.declared.item.Item.{Item}
 use Rattle.apply.specs.Apply.{Given, Known, lamport_fits, item_formed, item_ids, item_single, entry_formed, entry_ids, entry_known, used, applied, apply_code}
 use Rattle.apply.specs.Given.{given_code, insert_code, len_code, item_code, lowest}
-use Rattle.apply.proofs.Tabs.{tab_turn}
+use Rattle.apply.proofs.Tabs.{tab_turn, tab_none, tab_all}
 
 -- 1, 2 or 14 by three tests
 abbrev pub code_by : Bool → Bool → Bool → ℕ
@@ -84,25 +85,30 @@ apply_code_lem out es old u v e f =
     by true true true true true k = refl
     by true true true true false k = refl
 
--- ---- a loop from the last to the first
+-- ---- a loop over a list: what was met, and what is left from i on
+
+lower_assoc : (x y z : ℕ) → lower (lower x y) z ≡ lower x (lower y z)
+unfolding lower
+lower_assoc x y z = grind (arith, nat_tests)
+
+lower_end : (x : ℕ) → lower x 0 ≡ x
+unfolding lower
+lower_end x = grind (arith, nat_tests)
 
 module _ {A : Type 0} (F : A → ℕ) (f : ℕ → A) (n : ℕ) where
-  pub low_start : 0 ≡ lowest F (tab f n (n - n))
-  unfolding lowest tab
-  low_start = sym (ap (λ (m : ℕ). lowest F (tab f n m)) (let e : n - n ≡ 0 = omega arith in e))
+  pub low_start : lower 0 (lowest F (tab f 0 (n - 0))) ≡ lowest F (tab f 0 n)
+  unfolding lower
+  low_start = ap (lowest F) (sym (tab_all f n))
 
-  pub low_turn : (i code : ℕ) → i ≤ n → 0 < i → code ≡ lowest F (tab f i (n - i)) → lower (F (f (i - 1))) code ≡ lowest F (tab f (i - 1) (n - (i - 1)))
+  pub low_next : (i c k d : ℕ) → i < n → lower c (lowest F (tab f i (n - i))) ≡ lowest F (tab f 0 n) → k ≡ F (f i) → d ≡ lower c k
+      → lower d (lowest F (tab f (i + 1) (n - (i + 1)))) ≡ lowest F (tab f 0 n)
   unfolding lowest
-  low_turn i code h k e =
-      let w : i - 1 + 1 ≡ i = omega arith in
-      ap (lower (F (f (i - 1)))) (e ∙ ap (λ (m : ℕ). lowest F (tab f m (n - m))) (sym w))
-      ∙ sym (ap (lowest F) (tab_turn f n (i - 1) (omega arith)))
+  low_next i c k d h e p q =
+      rw (q, p) (lower_assoc c (F (f i)) (lowest F (tab f (i + 1) (n - (i + 1)))) ∙ (sym (ap (λ (l : List A). lower c (lowest F l)) (tab_turn f n i h)) ∙ e))
 
-  pub low_end : (i code : ℕ) → i ≤ 0 → code ≡ lowest F (tab f i (n - i)) → code ≡ lowest F (tab f 0 n)
-  low_end i code h e =
-      let z : i ≡ 0 = omega arith in
-      let w : n - 0 ≡ n = omega arith in
-      e ∙ ap (λ (m : ℕ). lowest F (tab f m (n - m))) z ∙ ap (λ (m : ℕ). lowest F (tab f 0 m)) w
+  pub low_end : (i c : ℕ) → n ≤ i → lower c (lowest F (tab f i (n - i))) ≡ lowest F (tab f 0 n) → c ≡ lowest F (tab f 0 n)
+  unfolding lowest
+  low_end i c h e = sym (lower_end c) ∙ (sym (ap (λ (l : List A). lower c (lowest F l)) (tab_none f n i h)) ∙ e)
 
 -- ---- by the tests' values
 

@@ -23,6 +23,7 @@ use units::diff::Entry;
 // ---- Refusals
 
 // The one of two outcomes that counts: a refusal before none, and of two refusals the lower number.
+#[tactic(auto, using(span::proofs::RefusalLaws::number_not_zero), unfolding(span::specs::Answer::lower))]
 fn lower(x: Result<(), Refusal>, y: Result<(), Refusal>) -> Result<(), Refusal>
     ensures { code_of result ≡ lower (code_of x) (code_of y) }
 {
@@ -34,6 +35,7 @@ fn lower(x: Result<(), Refusal>, y: Result<(), Refusal>) -> Result<(), Refusal>
 }
 
 // What refuses an old unit itself.
+#[tactic(auto, unfolding(crate::specs::Given::item_code, crate::specs::Apply::item_formed, crate::specs::Apply::item_ids, crate::specs::Apply::item_single, span::specs::Chunk::chunk_code))]
 fn check_item(x: Item) -> Result<(), Refusal>
     ensures { code_of result ≡ item_code x }
 {
@@ -49,6 +51,7 @@ fn check_item(x: Item) -> Result<(), Refusal>
 }
 
 // The lowest refusal among the first n entries. The caller takes n from the shortest column.
+#[tactic(auto, using(crate::proofs::Lows::low_start, crate::proofs::Lows::low_next, crate::proofs::Lows::low_end))]
 fn check_entries(
     kind: &[u8],
     a: &[u32],
@@ -70,6 +73,7 @@ fn check_entries(
 }
 
 // The lowest refusal among the first n items. The caller counts the rows that fit.
+#[tactic(auto, using(crate::proofs::Lows::low_start, crate::proofs::Lows::low_next, crate::proofs::Lows::low_end))]
 fn check_items(s: &[u8], n: usize) -> Result<(), Refusal>
     requires { n * 24 ≤ length s.now }
     ensures { code_of result ≡ lowest item_code (tab (item_in s.now) 0 n) }
@@ -82,6 +86,7 @@ fn check_items(s: &[u8], n: usize) -> Result<(), Refusal>
 }
 
 // Whether the first n entries use no more than `have` old units; n as above. It stops at the first that does not fit, so that no sum grows too large.
+#[tactic(auto, using(crate::proofs::Fits::used_turn, crate::proofs::Fits::used_stop, crate::proofs::Fits::used_done))]
 fn used_fits(
     kind: &[u8],
     a: &[u32],
@@ -107,6 +112,7 @@ fn used_fits(
 }
 
 // Whether the new list of `have` old units has no more than `room` units; n as above. Asked only where the old units suffice.
+#[tactic(auto, using(crate::proofs::Fits::left_start, crate::proofs::Fits::left_on, crate::proofs::Fits::new_turn, crate::proofs::Fits::new_stop, crate::proofs::Fits::new_done))]
 fn new_fits(
     kind: &[u8],
     a: &[u32],

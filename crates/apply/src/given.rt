@@ -25,6 +25,7 @@ fn insert_given(w: EntryNumbers, lamport: Option<u32>) -> Option<Entry>
 }
 
 // The entry, or none where no kind has this number.
+#[tactic(auto, unfolding(crate::specs::Given::given_of))]
 pub fn given_of(w: EntryNumbers) -> Option<Entry>
     ensures { result ≡ given_of w }
 {
@@ -38,6 +39,7 @@ pub fn given_of(w: EntryNumbers) -> Option<Entry>
 }
 
 // The entry in place i of the columns. The loops that call it stay within the shortest column.
+#[tactic(auto, unfolding(crate::specs::Given::given_at))]
 pub fn given_at(
     kind: &[u8],
     a: &[u32],
@@ -63,6 +65,7 @@ pub fn given_at(
 // ---- What an entry uses and gives
 
 // How many old units an entry uses.
+#[tactic(auto, unfolding(crate::specs::Given::takes))]
 pub fn takes(g: Option<Entry>) -> usize
     ensures { (result ≡ takes g) × (result < 4294967296) }
 {
@@ -73,6 +76,7 @@ pub fn takes(g: Option<Entry>) -> usize
 }
 
 // How many new units it gives.
+#[tactic(auto, unfolding(crate::specs::Given::gives))]
 pub fn gives(g: Option<Entry>) -> usize
     ensures { (result ≡ gives g) × (result < 4294967296) }
 {
@@ -85,12 +89,14 @@ pub fn gives(g: Option<Entry>) -> usize
 
 // ---- Refusals
 
+#[tactic(auto, unfolding(crate::specs::Apply::lamport_fits))]
 fn lamport_fits(lamport: Option<u32>, len: u32) -> bool
     ensures { result ≡ lamport_fits lamport len }
 {
     lamport.map_or(true, |first| first.checked_add(len).is_some())
 }
 
+#[tactic(auto, unfolding(crate::specs::Given::insert_code, span::specs::Chunk::chunk_code))]
 fn check_insert(content: RichtextChunk, id: Id, lamport: Option<u32>) -> Result<(), Refusal>
     ensures { code_of result ≡ insert_code content id lamport }
 {
@@ -114,6 +120,7 @@ fn check_len(n: u32) -> Result<(), Refusal>
 }
 
 // What refuses an entry itself.
+#[tactic(auto, unfolding(crate::specs::Given::given_code, crate::specs::Given::insert_code, crate::specs::Apply::entry_formed, crate::specs::Apply::entry_ids, crate::specs::Apply::entry_known))]
 pub fn check_given(g: Option<Entry>) -> Result<(), Refusal>
     ensures { code_of result ≡ given_code g }
 {

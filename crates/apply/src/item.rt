@@ -19,6 +19,7 @@ pub struct Item {
 }
 
 // The item in row i. Loops over the rows that fit call it.
+#[tactic(auto, unfolding(crate::specs::Items::item_in))]
 pub fn get_item(s: &[u8], i: usize) -> Item
     requires { i * 24 + 24 ≤ length s.now }
     ensures { result ≡ item_in s.now i }
@@ -45,6 +46,7 @@ pub fn put_item(s: &mut [u8], i: usize, x: Item)
 }
 
 // A unit as an item.
+#[tactic(auto, unfolding(crate::specs::Apply::item_of))]
 pub fn item_of(unit: FugueSpan) -> Item
     ensures { result ≡ item_of unit }
 {

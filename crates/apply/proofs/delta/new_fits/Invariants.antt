@@ -7,7 +7,4 @@ use Prim.Native.Nat.{◌-◌, ◌≤◌}
 use Rattle.apply.proofs.delta.new_fits.Given as goal
 
 abbrev pub invariant-loop-i : goal.invariant-loop-i
-invariant-loop-i l = (l.i ≤ l.n) × ((used (tab (given_at l.kind l.a l.b l.peer l.counter l.lamport) l.i (l.n - l.i)) ≤ l.left) × (leb (new_len (tab (given_at l.kind l.a l.b l.peer l.counter l.lamport) 0 l.n) l.have) l.room ≡ leb (new_len (tab (given_at l.kind l.a l.b l.peer l.counter l.lamport) l.i (l.n - l.i)) l.left) l.free))
-
-abbrev pub decreases-loop-i : goal.decreases-loop-i
-decreases-loop-i l = l.n - l.i
+invariant-loop-i l = (used (tab (given_at l.kind l.a l.b l.peer l.counter l.lamport) l.i (l.n - l.i)) ≤ l.left) × (leb (new_len (tab (given_at l.kind l.a l.b l.peer l.counter l.lamport) 0 l.n) l.have) l.room ≡ leb (new_len (tab (given_at l.kind l.a l.b l.peer l.counter l.lamport) l.i (l.n - l.i)) l.left) l.free)

@@ -1,5 +1,4 @@
-use Prim.Native.Nat.{ℕ, ◌-◌}
-use mathlib.Core.Path.{◌≡◌}
+use Prim.Native.Nat.{ℕ}
 use Rattle.span.specs.Span.{len_span}
 use Rattle.span.specs.Units.{unit_at}
 use Rattle.apply.specs.Apply.{item_of}
@@ -7,7 +6,4 @@ use Rattle.apply.proofs.Tabs.{Copy}
 use Rattle.apply.proofs.item.put_units.Given as goal
 
 abbrev pub invariant-loop-j : goal.invariant-loop-j
-invariant-loop-j l = (l.len ≡ len_span l.x) × Copy (λ (i : ℕ). item_of (unit_at l.x i)) 0 l.len l.k l.j l.initial.out l.out
-
-abbrev pub decreases-loop-j : goal.decreases-loop-j
-decreases-loop-j l = l.len - l.j
+invariant-loop-j l = Copy (λ (i : ℕ). item_of (unit_at l.x i)) 0 (len_span l.x) l.k l.j l.initial.out l.out

@@ -1,9 +1,5 @@
 use Rattle.apply.proofs.Shown.{Showing}
-use Prim.Native.Nat.{◌-◌}
 use Rattle.apply.proofs.visible.write_shown.Given as goal
 
 abbrev pub invariant-loop-i : goal.invariant-loop-i
 invariant-loop-i l = Showing l.n l.s l.i l.k l.initial.out l.out
-
-abbrev pub decreases-loop-i : goal.decreases-loop-i
-decreases-loop-i l = l.n - l.i
