@@ -10,7 +10,7 @@ use lib.Signed.{le_z, lt_z}
 use lib.ListN.{length, drop}
 use lib.Seq.{drop-drop}
 use mir.Syntax.{w16, w32}
-use mir.Val.{SFits, to_z}
+use mir.Val.{SFits, to_z, bool_byte as from_bool}
 use mir.Facts.{to_z-of_z, to_z_pos}
 use borrow.Author.Tests.{ltb-true, ltb-false, lt-ltb, le-ltb, le-leb, lt-leb, leb-true, eq-eqb, ne_eqb}
 use Rattle.span.specs.declared.ids.Id.{Id}
@@ -199,10 +199,6 @@ module _ (t : List ℕ) (at k peer c most : ℕ) where
 
 -- ---------------------------------------------------------------- one edit
 
-not_hit : (a b : Bool) → (not a && b) ≡ true → a ≡ false
-not_hit true b e = sym e
-not_hit false b e = refl
-
 module _ (v : Version) (e : List ℕ) (i : ℕ) (t : List ℕ) (at peer c most : ℕ) where
   pub edit_in_lem : below v (edit_in (drop (i * 256) e)).id ≡ true → (k : ℕ) → k ≡ took_in (drop (i * 256) e) → (r : Found)
       → Same (λ (j : ℕ). in_ranges (unit_id peer (c + j)) (ranges k (drop (at * 16) t))) most r
@@ -213,11 +209,10 @@ module _ (v : Version) (e : List ℕ) (i : ℕ) (t : List ℕ) (at peer c most :
       (λ j. rw b (ap (λ (n : ℕ). in_ranges (unit_id peer (c + j)) (ranges n (drop (at * 16) t))) (sym q)))
 
   -- what took none of the units took none in the version
-  pub edit_none : (k : ℕ) → k ≡ took_in (drop (i * 256) e) → (r : Found) → (not r.hit && eqb r.len most) ≡ true → Same (λ (j : ℕ). in_ranges (unit_id peer (c + j)) (ranges k (drop (at * 16) t))) most r
+  pub edit_none : (k : ℕ) → k ≡ took_in (drop (i * 256) e) → (r : Found) → r.hit ≡ false → Same (λ (j : ℕ). in_ranges (unit_id peer (c + j)) (ranges k (drop (at * 16) t))) most r
       → Same (λ (j : ℕ). edit_takes v e i t at (unit_id peer (c + j))) most r
   unfolding edit_takes
-  edit_none k q r y s =
-      let z : r.hit ≡ false = not_hit r.hit (eqb r.len most) y in
+  edit_none k q r z s =
       record {
         some = s.some;
         few = s.few;
@@ -239,6 +234,15 @@ pub record Run (v : Version) (e t : List ℕ) (h peer c most : ℕ) (times len a
   pub few : len ≤ most
   pub same : (j : ℕ) → j < len
       → times + deletes_in v (held (h - i) (drop (i * 256) e) (drop (used i e * 16) t)) (unit_id peer (c + j)) ≡ deletes_in v (held h e t) (unit_id peer (c + j))
+
+-- a hit counts as one
+pub bit_byte : (b : Bool) → from_bool b ≡ bit_of b
+bit_byte true = refl
+bit_byte false = refl
+
+pub bit_small : (b : Bool) (k : ℕ) → k ≡ from_bool b → k < 2
+bit_small true k e = omega arith
+bit_small false k e = omega arith
 
 deletes_cons : (v : Version) (x : Held) (l : List Held) (u : Id) (b : Bool) → below v x.edit.id && in_ranges u x.took ≡ b
     → deletes_in v (x ∷ l) u ≡ bit_of b + deletes_in v l u

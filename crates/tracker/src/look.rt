@@ -99,7 +99,7 @@ fn ranges_reach(t: &[u8], at: usize, k: usize, peer: u64, c: u32, most: u32) -> 
     let mut len = most;
     for i in 0..k {
         let found = range_reach(peer, c, get_target(t, at + i), len);
-        hit = hit || found.hit;
+        hit |= found.hit;
         len = found.len;
     }
     Found { hit, len }
@@ -139,8 +139,10 @@ fn edit_reach(
 {
     let took = edit_took(e, i);
     let found = ranges_reach(t, at, took as usize, peer, c, most);
-    let missed = !found.hit && found.len == most;
-    if missed || below(v, m, edit_id(e, i)) {
+    if !found.hit && found.len == most {
+        return found;
+    }
+    if below(v, m, edit_id(e, i)) {
         found
     } else {
         Found {

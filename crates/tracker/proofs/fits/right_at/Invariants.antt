@@ -8,6 +8,3 @@ use Rattle.tracker.proofs.fits.right_at.Given as goal
 
 abbrev pub invariant-loop-i : goal.invariant-loop-i
 invariant-loop-i l = (l.i ≤ l.n) × (first_in (pairs l.m l.v) (drop l.at (rows l.n l.s)) ≡ first_in (pairs l.m l.v) (drop l.i (rows l.n l.s)))
-
-abbrev pub decreases-loop-i : goal.decreases-loop-i
-decreases-loop-i l = l.n - l.i

@@ -8,6 +8,3 @@ use Rattle.tracker.proofs.fits.stays.Given as goal
 
 abbrev pub invariant-loop-i : goal.invariant-loop-i
 invariant-loop-i l = Stay (pairs l.m l.v) (verdict (expand (rows l.n l.all)) l.x l.o l.p l.q) l.k l.part l.holding l.i
-
-abbrev pub decreases-loop-i : goal.decreases-loop-i
-decreases-loop-i l = l.k - l.i

@@ -5,6 +5,3 @@ use Rattle.tracker.proofs.look.edits_reach.Given as goal
 
 abbrev pub invariant-loop-i : goal.invariant-loop-i
 invariant-loop-i l = Run (pairs l.m l.v) l.e l.t l.h l.peer l.c l.most l.times l.len l.at l.i
-
-abbrev pub decreases-loop-i : goal.decreases-loop-i
-decreases-loop-i l = l.h - l.i

@@ -4,6 +4,3 @@ use Rattle.tracker.proofs.look.ranges_reach.Given as goal
 
 abbrev pub invariant-loop-i : goal.invariant-loop-i
 invariant-loop-i l = Ranged l.t l.at l.k l.peer l.c l.most l.hit l.len l.i
-
-abbrev pub decreases-loop-i : goal.decreases-loop-i
-decreases-loop-i l = l.k - l.i

@@ -10,4 +10,4 @@ returns c = let vr = c.version_reach-known in
     let er = c.edits_reach-taken in
     let cb = c.counter_bits-c in
     let a = c.args in
-    status_same a.id a.most c.requires.2 cb.result cb.ensures.0 (pairs a.m a.v.now) (held a.h a.e.now a.t.now) a.h c.requires.0.few er.result er.ensures vr.result vr.ensures c.status_of-status.result c.status_of-status.ensures
+    status_same a.id a.most c.requires.2 cb.result cb.ensures.0 (pairs a.m a.v.now) (held a.h a.e.now a.t.now) a.h c.requires.0.few er.result er.ensures vr.result vr.ensures c.status_of.result c.status_of.ensures

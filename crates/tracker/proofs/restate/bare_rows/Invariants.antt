@@ -8,6 +8,3 @@ use Rattle.tracker.proofs.restate.bare_rows.Given as goal
 
 abbrev pub invariant-loop-i : goal.invariant-loop-i
 invariant-loop-i l = (length l.s ≡ length l.initial.s) × Stream l.n l.w l.i (rows l.n l.initial.s) (baring (rows l.n l.initial.s)) baring l.s
-
-abbrev pub decreases-loop-i : goal.decreases-loop-i
-decreases-loop-i l = l.n - l.i

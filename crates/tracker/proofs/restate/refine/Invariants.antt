@@ -11,6 +11,3 @@ use Rattle.tracker.proofs.restate.refine.Given as goal
 abbrev pub invariant-loop-i : goal.invariant-loop-i
 invariant-loop-i l =
     (length l.s ≡ length l.initial.s) × Refine l.both (pairs l.ka l.a) (pairs l.kb l.b) (held l.h l.e l.t) l.k l.w l.i (seen l.both (pairs l.ka l.a) (pairs l.kb l.b) (held l.h l.e l.t) (expand (drop l.from (rows l.k l.initial.s)))) l.s
-
-abbrev pub decreases-loop-i : goal.decreases-loop-i
-decreases-loop-i l = l.k - l.i

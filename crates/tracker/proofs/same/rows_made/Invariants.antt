@@ -8,6 +8,3 @@ use Rattle.tracker.proofs.same.rows_made.Given as goal
 
 abbrev pub invariant-loop-i : goal.invariant-loop-i
 invariant-loop-i l = (l.i ≤ l.n) × (all_made (made_in l.p l.h l.e) (expand (rows l.n l.s)) ≡ all_made (made_in l.p l.h l.e) (expand (drop l.i (rows l.n l.s))))
-
-abbrev pub decreases-loop-i : goal.decreases-loop-i
-decreases-loop-i l = l.n - l.i

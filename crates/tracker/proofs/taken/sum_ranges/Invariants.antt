@@ -4,6 +4,3 @@ use Rattle.tracker.proofs.taken.sum_ranges.Given as goal
 
 abbrev pub invariant-loop-j : goal.invariant-loop-j
 invariant-loop-j l = Summed l.m l.t l.j l.sum
-
-abbrev pub decreases-loop-j : goal.decreases-loop-j
-decreases-loop-j l = l.m - l.j

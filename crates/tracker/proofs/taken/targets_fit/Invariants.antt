@@ -4,6 +4,3 @@ use Rattle.tracker.proofs.taken.targets_fit.Given as goal
 
 abbrev pub invariant-loop-i : goal.invariant-loop-i
 invariant-loop-i l = Taking l.n l.s l.h l.e l.t l.i l.at
-
-abbrev pub decreases-loop-i : goal.decreases-loop-i
-decreases-loop-i l = l.h - l.i

@@ -7,6 +7,3 @@ use Rattle.tracker.proofs.taken.well_ranges.Given as goal
 
 abbrev pub invariant-loop-j : goal.invariant-loop-j
 invariant-loop-j l = (l.j ≤ l.m) × (well_ranges (ranges l.m l.t) ≡ well_ranges (drop l.j (ranges l.m l.t)))
-
-abbrev pub decreases-loop-j : goal.decreases-loop-j
-decreases-loop-j l = l.m - l.j

@@ -4,6 +4,3 @@ use Rattle.tracker.proofs.targets.put_targets.Given as goal
 
 abbrev pub invariant-loop-i : goal.invariant-loop-i
 invariant-loop-i l = Taking l.initial.left l.n l.at l.s l.initial.t l.left l.i l.k l.t
-
-abbrev pub decreases-loop-i : goal.decreases-loop-i
-decreases-loop-i l = l.n - l.i
