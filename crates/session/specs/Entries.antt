@@ -10,8 +10,8 @@ use Rattle.units.specs.Delta.{entries}
 use Rattle.rope.specs.Columns.{numbers, entry_numbers, get_diff_code}
 use Rattle.apply.specs.declared.item.Item.{Item}
 use Rattle.apply.specs.Maybe.{ApplyAnswer}
-use Rattle.std.specs.Prelude.{Ok as Done}
-use Rattle.span.specs.Refusal.{refused as Refused}
+use Rattle.std.specs.Prelude.{Ok as Done, Err}
+use Rattle.span.specs.Refusal.{number_of}
 use Rattle.apply.specs.Items.{item_in}
 use Rattle.script.specs.Print.{number_text, id_text, chunk_text, head_line, item_line}
 use Rattle.session.specs.Say.{up_to}
@@ -73,7 +73,7 @@ listed_lines out n = head_line (ascii "list") n ∷ up_to (item_at out) n
 -- the applier's answer
 unfoldable pub answer_lines : ApplyAnswer → List ℕ → List (List ℕ)
 answer_lines (Done n) out = listed_lines out n
-answer_lines (Refused code) out = refused_lines code
+answer_lines (Err e) out = refused_lines (number_of e)
 
 -- list N, and N items
 unfoldable pub items_lines : List Item → List (List ℕ)

@@ -1,3 +1,5 @@
+pub mod Maybe
+pub mod Console
 pub mod Say
 pub mod Columns
 pub mod Input

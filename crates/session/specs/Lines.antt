@@ -8,14 +8,12 @@ use Rattle.script.specs.declared.call.Look.{Look}
 use Rattle.script.specs.declared.call.Look.TheVariants as Look
 use Rattle.span.specs.declared.span.FugueSpan.{FugueSpan}
 use Rattle.span.specs.Maybe.{SpanAnswer}
-use Rattle.std.specs.Prelude.{Some, None, Ok}
-use Rattle.span.specs.Refusal.{refused}
+use Rattle.std.specs.Prelude.{Some, None, Ok, Err}
+use Rattle.span.specs.Refusal.{number_of}
 use Rattle.span.specs.Span.{len_span, active_len, real_of, slice_span_of}
 use Rattle.store.specs.Row.{row_at, row_bytes}
 use Rattle.store.specs.Header.{count}
-use Rattle.rope.specs.Maybe.{LenAnswer}
-use Rattle.rope.specs.declared.query.RealAnswer.{RealAnswer}
-use Rattle.rope.specs.declared.query.RealAnswer.TheVariants as Real
+use Rattle.rope.specs.Maybe.{LenAnswer, RealAnswer}
 use Rattle.units.specs.Store.{is_state}
 use Rattle.rope.specs.Entries.{len_answer, real_answer}
 use Rattle.tracker.specs.Rows.{is_history}
@@ -44,13 +42,13 @@ done_lines code = if code == 0 then ok_lines else refused_lines code
 -- len N
 unfoldable pub len_lines : LenAnswer → List (List ℕ)
 len_lines (Ok n) = head_line (ascii "len") n ∷ []
-len_lines (refused code) = refused_lines code
+len_lines (Err e) = refused_lines (number_of e)
 
 -- at ID LEFT, or at nothing
 unfoldable pub at_lines : RealAnswer → List (List ℕ)
-at_lines (Real.At i left) = at_line i left ∷ []
-at_lines Real.Nothing = (ascii "at nothing" ++ (10 ∷ [])) ∷ []
-at_lines (Real.Refused code) = refused_lines code
+at_lines (Ok (Some (i, left))) = at_line i left ∷ []
+at_lines (Ok None) = (ascii "at nothing" ++ (10 ∷ [])) ∷ []
+at_lines (Err e) = refused_lines (number_of e)
 
 -- sum HEX
 abbrev pub sum_lines : ℕ → List (List ℕ)
@@ -67,7 +65,7 @@ one_lines Kind.Items u = item_line (real_of u) u.content ∷ []
 -- the unit of a slice; a malformed span has none
 unfoldable pub unit_lines : Kind → SpanAnswer → List (List ℕ)
 unit_lines kind (Ok u) = one_lines kind u
-unit_lines kind (refused code) = []
+unit_lines kind (Err e) = []
 
 -- the first n units of a span
 abbrev pub units_lines : Kind → FugueSpan → ℕ → List (List ℕ)

@@ -1,7 +1,6 @@
 -- What a session remembers, after what is said to it.
-use Rattle.std.specs.Prelude.{◌≡◌, ℕ, ◌+◌, ◌*◌, List, ◌==◌, if◌then◌else◌}
+use Rattle.std.specs.Prelude.{◌≡◌, ℕ, ◌+◌, ◌*◌, List, Some, None, ◌==◌, if◌then◌else◌}
 use Rattle.session.specs.declared.state.Open.{Open}
-use Rattle.session.specs.declared.state.Open.TheVariants as Open
 use Rattle.session.specs.declared.state.Session.{Session}
 use Rattle.session.specs.Say.{said_at, said_text}
 use Rattle.session.specs.Lines.{done_lines}
@@ -9,7 +8,7 @@ use Rattle.session.specs.Lines.{done_lines}
 -- nothing is open, and everything is lent
 abbrev pub new_session : Session
 new_session =
-    record { «open» = Open.Nothing; lent = 0; held = 0; room = 4294967295; targets = 4294967295; out = 4294967295; at = 0 }
+    record { «open» = None; lent = 0; held = 0; room = 4294967295; targets = 4294967295; out = 4294967295; at = 0 }
 
 -- more of the answer is written
 abbrev pub said_to : Session → ℕ → Session
@@ -28,7 +27,7 @@ with_out s n = record { «open» = s.«open»; lent = s.lent; held = s.held; roo
 -- a rope or a history is open in the room that was said
 abbrev pub opened_as : Session → Open → Session
 opened_as s what =
-    record { «open» = what; lent = s.room; held = s.targets; room = s.room; targets = s.targets; out = s.out; at = s.at }
+    record { «open» = Some what; lent = s.room; held = s.targets; room = s.room; targets = s.targets; out = s.out; at = s.at }
 
 -- the bytes of a header and so many rows
 abbrev pub bytes_for : ℕ → ℕ

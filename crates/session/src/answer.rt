@@ -1,12 +1,15 @@
 // A line's answer: the call is found, what is lent is cut out, and who answers is asked.
 ghost use Rattle.std.specs.Prelude.{◌≡◌};
+ghost use Rattle.span.specs.Refusal.{code_of};
 ghost use Rattle.session.specs.Lines.{ok_lines, error_lines};
 ghost use Rattle.session.specs.Sessions.{bytes_for, Answered, OpenedIn};
 
 use crate::console::Output;
+use crate::lent::Lent;
 use crate::state::{Open, Session};
 use crate::{calls, history_calls, look, reply};
 use script::call::{Call, HistoryCall, Look, RopeCall, parse};
+use span::refusal::Refusal;
 use text::parts::{before, trim};
 
 // The bytes of a header and so many rows.
@@ -17,33 +20,41 @@ fn bytes_of(rows: u32) -> usize
 }
 
 // The end of an opening: where it was refused, what was open stays.
-fn opened(s: Session, what: Open, code: u8, output: &mut Output, text: &mut [u8]) -> Session
-    ensures { OpenedIn s what code text.old result text.new }
-{
-    let s = s.said(reply::done(output, text, s.at, code));
-    if code == 0 { s.opened(what) } else { s }
-}
-
-fn open_empty(s: Session, store: &mut [u8], output: &mut Output, text: &mut [u8]) -> Session {
-    let n = reply::within(bytes_of(s.room), store);
-    let code = rope::state::open(&mut store[..n]);
-    opened(s, Open::Rope, code, output, text)
-}
-
-fn open_placeholder(
+fn opened(
     s: Session,
-    units: u32,
-    store: &mut [u8],
+    what: Open,
+    outcome: Result<(), Refusal>,
+    output: &mut Output,
+    text: &mut [u8],
+) -> Session
+    ensures { OpenedIn s what (code_of outcome) text.old result text.new }
+{
+    let s = s.said(reply::done(output, text, s.at, outcome));
+    match outcome {
+        Ok(()) => s.opened(what),
+        Err(_) => s,
+    }
+}
+
+// An empty rope, or one with a placeholder of so many units.
+fn open_rope(
+    s: Session,
+    units: Option<u32>,
+    lent: &mut Lent,
     output: &mut Output,
     text: &mut [u8],
 ) -> Session {
+    let store = &mut *lent.store;
     let n = reply::within(bytes_of(s.room), store);
-    let code = rope::state::open_with(&mut store[..n], units);
-    opened(s, Open::Rope, code, output, text)
+    let outcome = match units {
+        None => rope::state::open(&mut store[..n]),
+        Some(units) => rope::state::open_with(&mut store[..n], units),
+    };
+    opened(s, Open::Rope, outcome, output, text)
 }
 
 // A history, with a placeholder where it has units.
-fn start(units: u32, s: &mut [u8], t: &[u8], e: &mut [u8]) -> u8 {
+fn start(units: u32, s: &mut [u8], t: &[u8], e: &mut [u8]) -> Result<(), Refusal> {
     if units == 0 {
         tracker::open::open(s, t, e)
     } else {
@@ -54,16 +65,17 @@ fn start(units: u32, s: &mut [u8], t: &[u8], e: &mut [u8]) -> u8 {
 fn open_history(
     s: Session,
     units: u32,
-    store: &mut [u8],
-    targets: &[u8],
-    edits: &mut [u8],
+    lent: &mut Lent,
     output: &mut Output,
     text: &mut [u8],
 ) -> Session {
+    let store = &mut *lent.store;
     let n = reply::within(bytes_of(s.room), store);
+    let targets = &mut *lent.targets;
     let m = reply::within(16 * (s.targets as usize), targets);
-    let code = start(units, &mut store[..n], &targets[..m], edits);
-    opened(s, Open::History, code, output, text)
+    let edits = &mut *lent.edits;
+    let outcome = start(units, &mut store[..n], &targets[..m], edits);
+    opened(s, Open::History, outcome, output, text)
 }
 
 fn error(s: Session, output: &mut Output, text: &mut [u8]) -> Session
@@ -81,36 +93,39 @@ fn ok(s: Session, output: &mut Output, text: &mut [u8]) -> Session
 fn on_rope(
     s: Session,
     c: RopeCall,
-    store: &mut [u8],
-    out: &mut [u8],
+    lent: &mut Lent,
     output: &mut Output,
     text: &mut [u8],
 ) -> Session {
-    let open = s.open;
-    match open {
-        Open::Nothing => error(s, output, text),
-        Open::Rope => {
-            let n = reply::within(bytes_of(s.lent), store);
-            let m = reply::within(72 * (s.out as usize), out);
-            s.said(calls::call(c, &mut store[..n], &mut out[..m], output, text, s.at))
-        }
-        Open::History => error(s, output, text),
-    }
+    let Some(Open::Rope) = s.open else {
+        return error(s, output, text);
+    };
+    let store = &mut *lent.store;
+    let n = reply::within(bytes_of(s.lent), store);
+    let out = &mut *lent.out;
+    let m = reply::within(72 * (s.out as usize), out);
+    let at = calls::call(c, &mut store[..n], &mut out[..m], output, text, s.at);
+    s.said(at)
 }
 
-fn in_history(
+// `said` is the line: a history's call finds its versions there.
+fn on_history(
     s: Session,
     c: HistoryCall,
     said: &[u8],
-    store: &mut [u8],
-    targets: &mut [u8],
-    edits: &mut [u8],
-    out: &mut [u8],
+    lent: &mut Lent,
     output: &mut Output,
     text: &mut [u8],
 ) -> Session {
+    let Some(Open::History) = s.open else {
+        return error(s, output, text);
+    };
+    let store = &mut *lent.store;
     let n = reply::within(bytes_of(s.lent), store);
+    let targets = &mut *lent.targets;
     let m = reply::within(16 * (s.held as usize), targets);
+    let edits = &mut *lent.edits;
+    let out = &mut *lent.out;
     let k = reply::within(72 * (s.out as usize), out);
     let at = history_calls::call(
         c,
@@ -126,49 +141,26 @@ fn in_history(
     s.said(at)
 }
 
-fn on_history(
-    s: Session,
-    c: HistoryCall,
-    said: &[u8],
-    store: &mut [u8],
-    targets: &mut [u8],
-    edits: &mut [u8],
-    out: &mut [u8],
-    output: &mut Output,
-    text: &mut [u8],
-) -> Session {
-    let open = s.open;
-    match open {
-        Open::Nothing => error(s, output, text),
-        Open::Rope => error(s, output, text),
-        Open::History => in_history(s, c, said, store, targets, edits, out, output, text),
-    }
-}
-
-fn at_rope(
-    s: Session,
-    l: Look,
-    store: &mut [u8],
-    out: &[u8],
-    output: &mut Output,
-    text: &mut [u8],
-) -> Session {
+fn at_rope(s: Session, l: Look, lent: &mut Lent, output: &mut Output, text: &mut [u8]) -> Session {
+    let store = &mut *lent.store;
     let n = reply::within(bytes_of(s.lent), store);
+    let out = &mut *lent.out;
     s.said(look::look_at_rope(l, &mut store[..n], out, output, text, s.at))
 }
 
 fn at_history(
     s: Session,
     l: Look,
-    store: &mut [u8],
-    targets: &[u8],
-    edits: &[u8],
-    out: &[u8],
+    lent: &mut Lent,
     output: &mut Output,
     text: &mut [u8],
 ) -> Session {
+    let store = &mut *lent.store;
     let n = reply::within(bytes_of(s.lent), store);
+    let targets = &mut *lent.targets;
     let m = reply::within(16 * (s.held as usize), targets);
+    let edits = &mut *lent.edits;
+    let out = &mut *lent.out;
     let at = look::look_at_history(
         l,
         &mut store[..n],
@@ -182,33 +174,19 @@ fn at_history(
     s.said(at)
 }
 
-fn on_any(
-    s: Session,
-    l: Look,
-    store: &mut [u8],
-    targets: &[u8],
-    edits: &[u8],
-    out: &[u8],
-    output: &mut Output,
-    text: &mut [u8],
-) -> Session {
-    let open = s.open;
-    match open {
-        Open::Nothing => error(s, output, text),
-        Open::Rope => at_rope(s, l, store, out, output, text),
-        Open::History => at_history(s, l, store, targets, edits, out, output, text),
+fn on_any(s: Session, l: Look, lent: &mut Lent, output: &mut Output, text: &mut [u8]) -> Session {
+    match s.open {
+        None => error(s, output, text),
+        Some(Open::Rope) => at_rope(s, l, lent, output, text),
+        Some(Open::History) => at_history(s, l, lent, output, text),
     }
 }
 
-// `said` is the line: a history's call finds its versions there.
 fn on_call(
     s: Session,
     c: Call,
     said: &[u8],
-    store: &mut [u8],
-    targets: &mut [u8],
-    edits: &mut [u8],
-    out: &mut [u8],
+    lent: &mut Lent,
     output: &mut Output,
     text: &mut [u8],
 ) -> Session {
@@ -216,12 +194,12 @@ fn on_call(
         Call::Room(n) => ok(s.with_room(n), output, text),
         Call::Targets(n) => ok(s.with_targets(n), output, text),
         Call::Out(n) => ok(s.with_out(n), output, text),
-        Call::Empty => open_empty(s, store, output, text),
-        Call::Placeholder(n) => open_placeholder(s, n, store, output, text),
-        Call::New(n) => open_history(s, n, store, targets, edits, output, text),
-        Call::Rope(r) => on_rope(s, r, store, out, output, text),
-        Call::History(h) => on_history(s, h, said, store, targets, edits, out, output, text),
-        Call::Look(l) => on_any(s, l, store, targets, edits, out, output, text),
+        Call::Empty => open_rope(s, None, lent, output, text),
+        Call::Placeholder(n) => open_rope(s, Some(n), lent, output, text),
+        Call::New(n) => open_history(s, n, lent, output, text),
+        Call::Rope(r) => on_rope(s, r, lent, output, text),
+        Call::History(h) => on_history(s, h, said, lent, output, text),
+        Call::Look(l) => on_any(s, l, lent, output, text),
         Call::Bad => error(s, output, text),
     }
 }
@@ -231,32 +209,16 @@ pub fn line(
     t: &[u8],
     cut: bool,
     s: Session,
-    store: &mut [u8],
-    targets: &mut [u8],
-    edits: &mut [u8],
-    out: &mut [u8],
+    lent: &mut Lent,
     output: &mut Output,
     text: &mut [u8],
 ) -> Session {
-    if cut {
-        return error(s, output, text);
-    }
-    if 4096 < t.len() {
+    if cut || 4096 < t.len() {
         return error(s, output, text);
     }
     let said = trim(before(t, b'#'), b' ');
-    if said.len() == 0 {
+    if said.is_empty() {
         return s;
     }
-    on_call(
-        s,
-        parse(said),
-        said,
-        store,
-        targets,
-        edits,
-        out,
-        output,
-        text,
-    )
+    on_call(s, parse(said), said, lent, output, text)
 }

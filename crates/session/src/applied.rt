@@ -13,11 +13,12 @@ ghost use Rattle.session.specs.Applied.{on_list_items, on_list_code, AppliesIn, 
 
 use crate::console::Output;
 use crate::entries::most;
-use crate::front::{front_items, front8, front32, front64};
+use crate::front::{front, front_items};
 use crate::versions::columns;
 use crate::{entries, reply};
 use apply::item::get_item;
 use script::field::word;
+use span::refusal::Refusal;
 
 // ---- The delta
 
@@ -46,10 +47,10 @@ fn delta_into(
         s,
         t,
         e,
-        front64(&from_peers, n),
-        front32(&from_counts, n),
-        front64(&to_peers, m),
-        front32(&to_counts, m),
+        front(&from_peers, n),
+        front(&from_counts, n),
+        front(&to_peers, m),
+        front(&to_counts, m),
         kind,
         a,
         b,
@@ -78,10 +79,8 @@ fn print_delta(
     ensures { Tells (least (length kind.old) (length a.old) (length b.old) (length peer.old) (length counter.old) (length lamport.old)) (word_of line.now 1) (word_of line.now 2) s.old t.now e.now at text.old result s.new text.new }
 {
     match delta_into(line, s, t, e, kind, a, b, peer, counter, lamport) {
-        Ok(n) => entries::entries(
-            kind, a, b, peer, counter, lamport, n, output, text, at,
-        ),
-        Err(code) => reply::refused(output, text, at, code),
+        Ok(n) => entries::entries(kind, a, b, peer, counter, lamport, n, output, text, at),
+        Err(refusal) => reply::refused(output, text, at, refusal),
     }
 }
 
@@ -140,10 +139,8 @@ fn items(out: &[u8], n: usize, output: &mut Output, text: &mut [u8], start: usiz
     ensures { Says start (listed_lines out.now n) text.old result text.new }
 {
     let mut at = reply::counted(output, text, start, b"list", n as u64);
-    let mut i = 0;
-    while i < n {
+    for i in 0..n {
         at = item(out, i, output, text, at);
-        i += 1;
     }
     at
 }
@@ -163,23 +160,29 @@ fn apply_entries(
     ensures { Called (delta_code (take n kind.now) (take n a.now) (take n b.now) (take n peer.now) (take n counter.now) (take n lamport.now) old.now out.old) (delta_items (take n kind.now) (take n a.now) (take n b.now) (take n peer.now) (take n counter.now) (take n lamport.now) old.now) out.old result out.new }
 {
     apply::delta::apply(
-        front8(kind, n),
-        front32(a, n),
-        front32(b, n),
-        front64(peer, n),
-        front32(counter, n),
-        front32(lamport, n),
+        front(kind, n),
+        front(a, n),
+        front(b, n),
+        front(peer, n),
+        front(counter, n),
+        front(lamport, n),
         old,
         out,
     )
 }
 
-fn listed(r: Result<usize, Refusal>, out: &[u8], output: &mut Output, text: &mut [u8], at: usize) -> usize
+fn listed(
+    r: Result<usize, Refusal>,
+    out: &[u8],
+    output: &mut Output,
+    text: &mut [u8],
+    at: usize,
+) -> usize
     ensures { Says at (answer_lines r out.now) text.old result text.new }
 {
     match r {
         Ok(n) => items(out, n, output, text, at),
-        Err(code) => reply::refused(output, text, at, code),
+        Err(refusal) => reply::refused(output, text, at, refusal),
     }
 }
 
@@ -198,20 +201,9 @@ fn apply_to_list(
     ensures { Called (on_list_code (take n kind.now) (take n a.now) (take n b.now) (take n peer.now) (take n counter.now) (take n lamport.now) s.now out.old) (on_list_items (take n kind.now) (take n a.now) (take n b.now) (take n peer.now) (take n counter.now) (take n lamport.now) s.now) out.old result out.new }
 {
     let mut old = [0u8; 589824];
-    match apply::visible::visible_items(s, &mut old) {
-        Ok(m) => apply_entries(
-            kind,
-            a,
-            b,
-            peer,
-            counter,
-            lamport,
-            n,
-            front_items(&old, m),
-            out,
-        ),
-        Err(code) => Err(code),
-    }
+    let m = apply::visible::visible_items(s, &mut old)?;
+    let old = front_items(&old, m);
+    apply_entries(kind, a, b, peer, counter, lamport, n, old, out)
 }
 
 // The delta, and the list at its first version with it applied.
@@ -230,10 +222,8 @@ fn apply_delta(
 ) -> Result<usize, Refusal>
     ensures { AppliesIn (least (length kind.old) (length a.old) (length b.old) (length peer.old) (length counter.old) (length lamport.old)) (word_of line.now 1) (word_of line.now 2) s.old t.now e.now out.old result s.new out.new }
 {
-    match delta_into(line, s, t, e, kind, a, b, peer, counter, lamport) {
-        Ok(n) => apply_to_list(s, kind, a, b, peer, counter, lamport, n, out),
-        Err(code) => Err(code),
-    }
+    let n = delta_into(line, s, t, e, kind, a, b, peer, counter, lamport)?;
+    apply_to_list(s, kind, a, b, peer, counter, lamport, n, out)
 }
 
 // The same with columns lent, as many entries as the output has rows.

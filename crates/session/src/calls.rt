@@ -18,15 +18,15 @@ use script::call::{Delete, Insert, RopeCall, SetFuture, Update};
 fn insert(x: Insert, s: &mut [u8], output: &mut Output, text: &mut [u8], at: usize) -> usize
     ensures { EditSaid (insert_number s.old x.pos (new_span x.id x.lamport x.content)) (insert_list s.old x.pos (new_span x.id x.lamport x.content)) s.old s.new at text.old result text.new }
 {
-    let code = rope::edit::insert(s, x.pos, x.id, x.lamport, x.content);
-    reply::done(output, text, at, code)
+    let outcome = rope::edit::insert(s, x.pos, x.id, x.lamport, x.content);
+    reply::done(output, text, at, outcome)
 }
 
 fn clear(s: &mut [u8], output: &mut Output, text: &mut [u8], at: usize) -> usize
     ensures { EditSaid (state_code s.old) (join (clear_units (expand (spans_of s.old)))) s.old s.new at text.old result text.new }
 {
-    let code = rope::edit::clear_diff_status(s);
-    reply::done(output, text, at, code)
+    let outcome = rope::edit::clear_diff_status(s);
+    reply::done(output, text, at, outcome)
 }
 
 // piece LEN SPAN, for row i of those that a delete put out
@@ -45,10 +45,8 @@ fn pieces(out: &[u8], n: usize, output: &mut Output, text: &mut [u8], start: usi
     ensures { Says start (pieces_lines out.now n) text.old result text.new }
 {
     let mut at = reply::counted(output, text, start, b"pieces", n as u64);
-    let mut i = 0;
-    while i < n {
+    for i in 0..n {
         at = piece(out, i, output, text, at);
-        i += 1;
     }
     at
 }
@@ -65,10 +63,11 @@ fn delete(
 {
     match rope::delete::delete(s, out, x.pos, x.len, x.start, x.reversed) {
         Ok(n) => pieces(out, n, output, text, at),
-        Err(code) => reply::refused(output, text, at, code),
+        Err(refusal) => reply::refused(output, text, at, refusal),
     }
 }
 
+// The rope's word for the script's. Both are other crates' types, so that no `From` can stand here.
 fn future(set: SetFuture) -> units::change::SetFuture
     ensures { result ≡ set_of set }
 {
@@ -82,17 +81,16 @@ fn future(set: SetFuture) -> units::change::SetFuture
 fn update(x: Update, s: &mut [u8], output: &mut Output, text: &mut [u8], at: usize) -> usize
     ensures { EditSaid (update_number s.old x.from.peer x.from.counter x.to.counter (set_of x.future) x.change x.on_diff) (update_list s.old x.from.peer x.from.counter x.to.counter (set_of x.future) x.change x.on_diff) s.old s.new at text.old result text.new }
 {
-    let set = x.future;
-    let code = rope::update::update(
+    let outcome = rope::update::update(
         s,
         x.from.peer,
         x.from.counter,
         x.to.counter,
-        future(set),
+        future(x.future),
         x.change,
         x.on_diff,
     );
-    reply::done(output, text, at, code)
+    reply::done(output, text, at, outcome)
 }
 
 pub fn call(

@@ -1,5 +1,5 @@
 // A delta: the columns lent for one call, and a line for each entry that it put into them.
-ghost use Rattle.std.specs.Prelude.{◌≡◌, ◌≤◌, [], ◌∷◌, length, slice_index};
+ghost use Rattle.std.specs.Prelude.{◌≡◌, ◌≤◌, [], ◌∷◌, length};
 ghost use Rattle.rope.specs.Columns.{least};
 ghost use Rattle.text.specs.Puts.{Puts};
 ghost use Rattle.session.specs.Say.{Says};
@@ -7,7 +7,7 @@ ghost use Rattle.session.specs.Entries.{lamport_text, insert_line, entry_line, n
 
 use crate::console::Output;
 use crate::reply;
-use rope::diff::{EntryNumbers};
+use rope::diff::EntryNumbers;
 use script::print;
 use span::chunk::RichtextChunk;
 use text::puts::put;
@@ -19,7 +19,7 @@ fn lamport(text: &mut [u8], at: usize, x: EntryNumbers) -> usize
     ensures { Puts at (lamport_text x) text.old result text.new }
 {
     if x.kind == 2 {
-        print::number(text, at, x.lamport as u64)
+        print::number(text, at, u64::from(x.lamport))
     } else {
         put(text, at, b" -")
     }
@@ -50,37 +50,16 @@ fn inserted(output: &mut Output, text: &mut [u8], at: usize, x: EntryNumbers) ->
 fn entry(x: EntryNumbers, output: &mut Output, text: &mut [u8], at: usize) -> usize
     ensures { Says at (entry_line x ∷ []) text.old result text.new }
 {
-    if x.kind == 0 {
-        return reply::counted(output, text, at, b"retain", x.a as u64);
+    match x.kind {
+        0 => reply::counted(output, text, at, b"retain", u64::from(x.a)),
+        1 => reply::counted(output, text, at, b"delete", u64::from(x.a)),
+        _ => inserted(output, text, at, x),
     }
-    if x.kind == 1 {
-        return reply::counted(output, text, at, b"delete", x.a as u64);
-    }
-    inserted(output, text, at, x)
 }
 
 // ---- Columns
 
-// Past the end it is 0.
-fn at8(column: &[u8], i: usize) -> u8
-    ensures { result ≡ slice_index column.now i }
-{
-    if i < column.len() { column[i] } else { 0 }
-}
-
-fn at32(column: &[u32], i: usize) -> u32
-    ensures { result ≡ slice_index column.now i }
-{
-    if i < column.len() { column[i] } else { 0 }
-}
-
-fn at64(column: &[u64], i: usize) -> u64
-    ensures { result ≡ slice_index column.now i }
-{
-    if i < column.len() { column[i] } else { 0 }
-}
-
-// Entry i of the columns.
+// Entry i of the columns. Past a column's end its number is 0.
 fn numbers_at(
     kind: &[u8],
     a: &[u32],
@@ -93,12 +72,12 @@ fn numbers_at(
     ensures { result ≡ numbers_at kind.now a.now b.now peer.now counter.now lamport.now i }
 {
     EntryNumbers {
-        kind: at8(kind, i),
-        a: at32(a, i),
-        b: at32(b, i),
-        peer: at64(peer, i),
-        counter: at32(counter, i),
-        lamport: at32(lamport, i),
+        kind: kind.get(i).copied().unwrap_or(0),
+        a: a.get(i).copied().unwrap_or(0),
+        b: b.get(i).copied().unwrap_or(0),
+        peer: peer.get(i).copied().unwrap_or(0),
+        counter: counter.get(i).copied().unwrap_or(0),
+        lamport: lamport.get(i).copied().unwrap_or(0),
     }
 }
 
@@ -118,11 +97,9 @@ pub fn entries(
     ensures { Says start (columns_lines kind.now a.now b.now peer.now counter.now lamport.now n) text.old result text.new }
 {
     let mut at = reply::counted(output, text, start, b"entries", n as u64);
-    let mut i = 0;
-    while i < n {
+    for i in 0..n {
         let x = numbers_at(kind, a, b, peer, counter, lamport, i);
         at = entry(x, output, text, at);
-        i += 1;
     }
     at
 }
@@ -146,7 +123,7 @@ fn diff_into(
 {
     match rope::diff::get_diff(s, kind, a, b, peer, counter, lamport) {
         Ok(n) => entries(kind, a, b, peer, counter, lamport, n, output, text, at),
-        Err(code) => reply::refused(output, text, at, code),
+        Err(refusal) => reply::refused(output, text, at, refusal),
     }
 }
 
@@ -154,7 +131,7 @@ fn diff_into(
 pub fn most(n: usize) -> usize
     ensures { (result ≡ lent_entries n) × (result ≤ 8192) }
 {
-    if n < 8192 { n } else { 8192 }
+    n.min(8192)
 }
 
 // The delta of a rope, with so many entries lent.

@@ -4,7 +4,7 @@ ghost use Rattle.session.specs.History.{Arrives, Goes};
 ghost use Rattle.session.specs.HistoryCalls.{insert_head, delete_head, HistorySays};
 
 use crate::console::Output;
-use crate::front::{front32, front64};
+use crate::front::front;
 use crate::versions::columns;
 use crate::{applied, reply};
 use script::call::{Arriving, HistoryCall, Insert};
@@ -14,25 +14,21 @@ use tracker::row::{Does, Head};
 fn inserting(x: Insert) -> Head
     ensures { result ≡ insert_head x }
 {
-    let id = x.id;
-    let content = x.content;
     Head {
-        id: id,
+        id: x.id,
         at: x.pos,
-        act: Does::Insert(x.lamport, content),
+        act: Does::Insert(x.lamport, x.content),
     }
 }
 
 fn deleting(x: Arriving) -> Head
     ensures { result ≡ delete_head x }
 {
-    let id = x.id;
-    let d = x.delete;
-    let start = d.start;
+    let delete = x.delete;
     Head {
-        id: id,
-        at: d.pos,
-        act: Does::Delete(d.len, d.reversed, start),
+        id: x.id,
+        at: delete.pos,
+        act: Does::Delete(delete.len, delete.reversed, delete.start),
     }
 }
 
@@ -52,8 +48,8 @@ fn arrive(
     let mut peers = [0u64; 32];
     let mut counts = [0u32; 32];
     let n = columns(w, &mut peers, &mut counts);
-    let code = tracker::arrive::arrive(s, t, e, x, front64(&peers, n), front32(&counts, n));
-    reply::done(output, text, at, code)
+    let outcome = tracker::arrive::arrive(s, t, e, x, front(&peers, n), front(&counts, n));
+    reply::done(output, text, at, outcome)
 }
 
 // The list goes to the version in w.
@@ -71,8 +67,8 @@ fn checkout(
     let mut peers = [0u64; 32];
     let mut counts = [0u32; 32];
     let n = columns(w, &mut peers, &mut counts);
-    let code = tracker::checkout::checkout(s, t, e, front64(&peers, n), front32(&counts, n));
-    reply::done(output, text, at, code)
+    let outcome = tracker::checkout::checkout(s, t, e, front(&peers, n), front(&counts, n));
+    reply::done(output, text, at, outcome)
 }
 
 pub fn call(

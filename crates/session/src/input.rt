@@ -5,50 +5,53 @@ ghost use Rattle.text.specs.Parts.{after};
 ghost use Rattle.session.specs.Input.{between, held, has_line, past_line, past_first, ReadBehind, Refilled};
 
 use crate::console::{Input, Output};
+use crate::lent::Lent;
 use crate::state::Session;
 use crate::{answer, reply};
 use text::parts::{before, find};
 
 // The bytes from..to of the buffer are read and not answered. `cut` says that the line that they belong to began before them.
-#[derive(Clone, Copy)]
+#[derive(Clone, Copy, Debug, PartialEq, Eq)]
 pub struct Reader {
     pub from: usize,
     pub to: usize,
     pub cut: bool,
 }
 
-// After a turn: whether there is more to do.
-#[derive(Clone, Copy)]
+// After a turn that is not the last.
+#[derive(Clone, Copy, Debug, PartialEq, Eq)]
 pub struct Turn {
     pub reader: Reader,
     pub session: Session,
-    pub more: bool,
 }
 
-#[derive(Clone, Copy)]
+// After a read. `more` says whether anything came: where nothing did, what was held still is.
+#[derive(Clone, Copy, Debug, PartialEq, Eq)]
 pub struct Filled {
     pub reader: Reader,
     pub more: bool,
 }
 
 impl Reader {
+    // Up to `to` from the buffer's start.
+    fn up_to(to: usize, cut: bool) -> Self
+        ensures { result ≡ record { from = 0; to = to; cut = cut } }
+    {
+        Self { from: 0, to, cut }
+    }
+
     // Past a line of n bytes and its end.
     fn past(self, n: usize) -> Self
         ensures { result ≡ past_line self n }
     {
-        if self.from < self.to {
-            if n < self.to - self.from {
-                return Reader {
-                    from: self.from + n + 1,
-                    to: self.to,
-                    cut: false,
-                };
+        if n < self.to.saturating_sub(self.from) {
+            Self {
+                from: self.from + n + 1,
+                cut: false,
+                ..self
             }
-        }
-        Reader {
-            from: 0,
-            to: 0,
-            cut: false,
+        } else {
+            Self::up_to(0, false)
         }
     }
 }
@@ -56,15 +59,7 @@ impl Reader {
 fn unread(bytes: &[u8], r: Reader) -> &[u8]
     ensures { result.now ≡ held bytes.now r }
 {
-    let from = r.from;
-    let to = r.to;
-    if bytes.len() < to {
-        return &bytes[..0];
-    }
-    if to < from {
-        return &bytes[..0];
-    }
-    &bytes[from..to]
+    bytes.get(r.from..r.to).unwrap_or_default()
 }
 
 // Whether a line's end is held.
@@ -80,10 +75,7 @@ fn next_line(
     bytes: &[u8],
     r: Reader,
     s: Session,
-    store: &mut [u8],
-    targets: &mut [u8],
-    edits: &mut [u8],
-    out: &mut [u8],
+    lent: &mut Lent,
     output: &mut Output,
     text: &mut [u8],
 ) -> Turn
@@ -91,21 +83,10 @@ fn next_line(
 {
     let held = unread(bytes, r);
     let n = find(held, b'\n');
-    let s = answer::line(
-        before(held, b'\n'),
-        r.cut,
-        s,
-        store,
-        targets,
-        edits,
-        out,
-        output,
-        text,
-    );
+    let session = answer::line(before(held, b'\n'), r.cut, s, lent, output, text);
     Turn {
         reader: r.past(n),
-        session: s,
-        more: true,
+        session,
     }
 }
 
@@ -114,43 +95,24 @@ fn last_line(
     bytes: &[u8],
     r: Reader,
     s: Session,
-    store: &mut [u8],
-    targets: &mut [u8],
-    edits: &mut [u8],
-    out: &mut [u8],
+    lent: &mut Lent,
     output: &mut Output,
     text: &mut [u8],
-) -> Turn {
-    let s = answer::line(
-        unread(bytes, r),
-        r.cut,
-        s,
-        store,
-        targets,
-        edits,
-        out,
-        output,
-        text,
-    );
-    let at = reply::flush(output, text, s.at);
-    Turn {
-        reader: r,
-        session: s.said(at),
-        more: false,
-    }
+) {
+    let s = answer::line(unread(bytes, r), r.cut, s, lent, output, text);
+    reply::flush(output, text, s.at);
 }
 
 // Moves the bytes from..to to the front, and answers how many they are.
 fn to_front(bytes: &mut [u8], from: usize, to: usize) -> usize
     ensures { (result ≡ length (between bytes.old from to)) × (bytes.new ≡ put 0 (between bytes.old from to) bytes.old) }
 {
-    if to <= bytes.len() {
-        if from <= to {
-            words::shift::down(bytes, 0, to - from, from);
-            return to - from;
-        }
+    if to <= bytes.len() && from <= to {
+        bytes.copy_within(from..to, 0);
+        to - from
+    } else {
+        0
     }
-    0
 }
 
 // Reads behind what is held; a line that fills the buffer is dropped, and answered `error` at its end.
@@ -170,55 +132,36 @@ fn read_behind(input: &mut Input, held: usize, cut: bool, bytes: &mut [u8]) -> F
 {
     if bytes.len() < held {
         return Filled {
-            reader: Reader {
-                from: 0,
-                to: 0,
-                cut: cut,
-            },
+            reader: Reader::up_to(0, cut),
             more: false,
         };
     }
-    let n = read_some(input, &mut bytes[held..]);
+    let n = input.read(&mut bytes[held..]);
     Filled {
-        reader: Reader {
-            from: 0,
-            to: std::num::wrapping_add_usize(held, n),
-            cut: cut,
-        },
+        reader: Reader::up_to(held + n, cut),
         more: 0 < n,
     }
 }
 
-fn read_some(input: &mut Input, bytes: &mut [u8]) -> usize
-    ensures { result ≤ length bytes.old }
-{
-    input.read(bytes)
-}
-
-// Where no whole line is held: what was answered is written out, so that nobody waits for it, and more is read. At the end the last line is answered.
+// Where no whole line is held: what was answered is written out, so that nobody waits for it, and more is read. At the end the last line is answered, and
+// there is no turn after it.
 fn refill(
     input: &mut Input,
     r: Reader,
     s: Session,
-    store: &mut [u8],
-    targets: &mut [u8],
-    edits: &mut [u8],
-    out: &mut [u8],
+    lent: &mut Lent,
     bytes: &mut [u8],
     output: &mut Output,
     text: &mut [u8],
-) -> Turn {
-    let s = s.said(reply::flush(output, text, s.at));
-    let f = fill(input, r, bytes);
-    let reader = f.reader;
-    if f.more {
-        return Turn {
-            reader: reader,
-            session: s,
-            more: true,
-        };
+) -> Option<Turn> {
+    let session = s.said(reply::flush(output, text, s.at));
+    let Filled { reader, more } = fill(input, r, bytes);
+    if more {
+        Some(Turn { reader, session })
+    } else {
+        last_line(bytes, reader, session, lent, output, text);
+        None
     }
-    last_line(bytes, reader, s, store, targets, edits, out, output, text)
 }
 
 // Answers one line, or reads.
@@ -226,46 +169,35 @@ fn step(
     input: &mut Input,
     r: Reader,
     s: Session,
-    store: &mut [u8],
-    targets: &mut [u8],
-    edits: &mut [u8],
-    out: &mut [u8],
+    lent: &mut Lent,
     bytes: &mut [u8],
     output: &mut Output,
     text: &mut [u8],
-) -> Turn {
+) -> Option<Turn> {
     if has_line(bytes, r) {
-        next_line(bytes, r, s, store, targets, edits, out, output, text)
+        Some(next_line(bytes, r, s, lent, output, text))
     } else {
-        refill(input, r, s, store, targets, edits, out, bytes, output, text)
+        refill(input, r, s, lent, bytes, output, text)
     }
 }
 
-// Answers line after line. Nothing says that a script ends, so the turns are counted down, from a number that no script uses up.
+// Answers line after line. Nothing says that a script ends, so the turns are counted, up to a number that no script reaches.
 pub fn lines(
     input: &mut Input,
-    store: &mut [u8],
-    targets: &mut [u8],
-    edits: &mut [u8],
-    out: &mut [u8],
+    lent: &mut Lent,
     bytes: &mut [u8],
     output: &mut Output,
     text: &mut [u8],
 ) {
-    let mut s = Session::new();
-    let mut r = Reader {
-        from: 0,
-        to: 0,
-        cut: false,
-    };
-    let mut turns = u64::MAX;
-    while 0 < turns {
-        turns -= 1;
-        let t = step(input, r, s, store, targets, edits, out, bytes, output, text);
-        if !t.more || output.has_failed() {
-            return;
+    let mut session = Session::new();
+    let mut reader = Reader::up_to(0, false);
+    for _ in 0..u64::MAX {
+        match step(input, reader, session, lent, bytes, output, text) {
+            Some(turn) if !output.has_failed() => {
+                session = turn.session;
+                reader = turn.reader;
+            }
+            _ => return,
         }
-        s = t.session;
-        r = t.reader;
     }
 }

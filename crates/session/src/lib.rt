@@ -13,58 +13,33 @@ pub mod entries;
 pub mod front;
 pub mod history_calls;
 pub mod input;
+pub mod lent;
 pub mod look;
 pub mod reply;
 pub mod state;
 pub mod versions;
 
 use console::{Input, Output, Source};
+use lent::Lent;
 use std::io::Stdout;
 
-// Answers the script that is read, to its end. The rows lent are 8,192 at most, after a header of a row's width.
+// Answers the script that is read, to its end. The rows lent are 8,192 at most, after a header of a row's width; target ranges of 16 bytes, 8,192 at most; the
+// edits of a history, a header and 2,000 rows; and an output of 8,192 rows.
 pub fn run(source: Source, stdout: Stdout) -> std::io::Result<()> {
     let mut input = Input::new(source);
     let mut output = Output::new(stdout);
     let mut store = [0u8; 589896];
-    with_store(&mut input, &mut store, &mut output);
-    console::end(input, output)
-}
-
-// Target ranges of 16 bytes, 8,192 at most.
-fn with_store(input: &mut Input, store: &mut [u8], output: &mut Output) {
     let mut targets = [0u8; 131072];
-    with_targets(input, store, &mut targets, output)
-}
-
-// The edits of a history: a header and 2,000 rows.
-fn with_targets(input: &mut Input, store: &mut [u8], targets: &mut [u8], output: &mut Output) {
     let mut edits = [0u8; 512064];
-    with_edits(input, store, targets, &mut edits, output)
-}
-
-// Pieces are put out into rows as wide as the store's, and items into the front of the same bytes.
-fn with_edits(
-    input: &mut Input,
-    store: &mut [u8],
-    targets: &mut [u8],
-    edits: &mut [u8],
-    output: &mut Output,
-) {
     let mut out = [0u8; 589824];
-    with_out(input, store, targets, edits, &mut out, output)
-}
-
-fn with_out(
-    input: &mut Input,
-    store: &mut [u8],
-    targets: &mut [u8],
-    edits: &mut [u8],
-    out: &mut [u8],
-    output: &mut Output,
-) {
     let mut bytes = io::large_buffer();
     let mut text = io::large_buffer();
-    input::lines(
-        input, store, targets, edits, out, &mut bytes, output, &mut text,
-    )
+    let mut lent = Lent {
+        store: &mut store,
+        targets: &mut targets,
+        edits: &mut edits,
+        out: &mut out,
+    };
+    input::lines(&mut input, &mut lent, &mut bytes, &mut output, &mut text);
+    console::end(input, output)
 }

@@ -9,23 +9,21 @@ ghost use Rattle.script.specs.Print.{head_line};
 
 use crate::console::Output;
 use crate::reply;
-use rope::query::{RealAnswer};
 use script::call::Look;
 use script::print;
-use span::span::{FugueSpan};
+use span::ids::Id;
+use span::refusal::Refusal;
+use span::span::FugueSpan;
 use store::header;
 use text::puts::{put, put_hex};
 
-// Option<FugueSpan> i of the list: the header stands before row 0.
+// Row i of the list: the header stands before row 0.
 pub fn row_of(s: &[u8], i: usize) -> Option<FugueSpan>
     ensures { result ≡ row_of s.now i }
 {
-    let n = s.len() / 72;
-    if n == 0 {
-        return None;
-    }
-    if i < n - 1 {
-        Some(store::get_row(s, i + 1))
+    let row = i.checked_add(1)?;
+    if row < s.len() / 72 {
+        Some(store::get_row(s, row))
     } else {
         None
     }
@@ -47,53 +45,64 @@ fn len(a: Result<usize, Refusal>, output: &mut Output, text: &mut [u8], at: usiz
 {
     match a {
         Ok(n) => reply::counted(output, text, at, b"len", n as u64),
-        Err(code) => reply::refused(output, text, at, code),
+        Err(refusal) => reply::refused(output, text, at, refusal),
     }
 }
 
-fn at_pos(a: RealAnswer, output: &mut Output, text: &mut [u8], at: usize) -> usize
+fn at_pos(
+    a: Result<Option<(Id, u32)>, Refusal>,
+    output: &mut Output,
+    text: &mut [u8],
+    at: usize,
+) -> usize
     ensures { Says at (at_lines a) text.old result text.new }
 {
     match a {
-        RealAnswer::At(id, left) => {
+        Ok(Some((id, left))) => {
             let at = reply::make_room(output, text, at);
             print::at_line(text, at, id, left)
         }
-        RealAnswer::Nothing => {
+        Ok(None) => {
             let at = reply::make_room(output, text, at);
             put(text, at, b"at nothing\n")
         }
-        RealAnswer::Refused(code) => reply::refused(output, text, at, code),
+        Err(refusal) => reply::refused(output, text, at, refusal),
     }
 }
 
 // What is printed of a list.
-#[derive(Clone, Copy)]
+#[derive(Clone, Copy, Debug, PartialEq, Eq)]
 pub enum Kind {
     Units,
     Spans,
     Items,
 }
 
-// One unit of a span: its line, or none where it is no item.
-fn unit(
-    kind: Kind,
-    x: FugueSpan,
-    k: u32,
-    next: u32,
-    output: &mut Output,
-    text: &mut [u8],
-    at: usize,
-) -> usize
-    ensures { Says at (unit_lines kind (slice_span_of x k next)) text.old result text.new }
+impl Kind {
+    // The word before their number.
+    fn name(self) -> &'static [u8]
+        ensures { result.now ≡ kind_name self }
+    {
+        match self {
+            Kind::Units => b"units",
+            Kind::Spans => b"spans",
+            Kind::Items => b"list",
+        }
+    }
+}
+
+// Unit k of a span: its line, or none where it is no item.
+fn unit(kind: Kind, x: FugueSpan, k: u32, output: &mut Output, text: &mut [u8], at: usize) -> usize
+    requires { k + 1 < 2 ^ 32 }
+    ensures { Says at (unit_lines kind (slice_span_of x k (k + 1))) text.old result text.new }
 {
-    match x.slice(k, next) {
-        Ok(u) => match kind {
-            Kind::Units => reply::unit(output, text, at, u),
-            Kind::Spans => at,
-            Kind::Items => reply::item(output, text, at, u.real_id(), u.content),
-        },
-        Err(_) => at,
+    let Ok(unit) = x.slice(k, k + 1) else {
+        return at;
+    };
+    match kind {
+        Kind::Units => reply::unit(output, text, at, unit),
+        Kind::Spans => at,
+        Kind::Items => reply::item(output, text, at, unit.real_id(), unit.content),
     }
 }
 
@@ -108,11 +117,8 @@ fn units(
     ensures { Says start (units_lines kind x n) text.old result text.new }
 {
     let mut at = start;
-    let mut k = 0;
-    while k < n {
-        let next = k + 1;
-        at = unit(kind, x, k, next, output, text, at);
-        k = next;
+    for k in 0..n {
+        at = unit(kind, x, k, output, text, at);
     }
     at
 }
@@ -122,9 +128,9 @@ fn lines(kind: Kind, x: FugueSpan) -> u64
     ensures { result ≡ span_count kind x }
 {
     match kind {
-        Kind::Units => x.rle_len() as u64,
+        Kind::Units => u64::from(x.rle_len()),
         Kind::Spans => 1,
-        Kind::Items => x.activated_len() as u64,
+        Kind::Items => u64::from(x.activated_len()),
     }
 }
 
@@ -141,10 +147,8 @@ fn all_lines(kind: Kind, s: &[u8], n: usize) -> u64
     ensures { result ≡ rows_count kind s.now n % 2 ^ 64 }
 {
     let mut sum: u64 = 0;
-    let mut i = 0;
-    while i < n {
-        sum = std::num::wrapping_add_u64(sum, lines_at(kind, s, i));
-        i += 1;
+    for i in 0..n {
+        sum = sum.wrapping_add(lines_at(kind, s, i));
     }
     sum
 }
@@ -172,22 +176,10 @@ fn rows(kind: Kind, s: &[u8], n: usize, output: &mut Output, text: &mut [u8], st
     ensures { Says start (rows_lines kind s.now n) text.old result text.new }
 {
     let mut at = start;
-    let mut i = 0;
-    while i < n {
+    for i in 0..n {
         at = row_at(kind, s, i, output, text, at);
-        i += 1;
     }
     at
-}
-
-fn head(kind: Kind, n: u64, output: &mut Output, text: &mut [u8], at: usize) -> usize
-    ensures { Says at (head_line (kind_name kind) n ∷ []) text.old result text.new }
-{
-    match kind {
-        Kind::Units => reply::counted(output, text, at, b"units", n),
-        Kind::Spans => reply::counted(output, text, at, b"spans", n),
-        Kind::Items => reply::counted(output, text, at, b"list", n),
-    }
 }
 
 // The list, a line for each unit, span or visible unit, where it is well formed.
@@ -196,10 +188,10 @@ fn list(fine: bool, kind: Kind, s: &[u8], output: &mut Output, text: &mut [u8], 
 {
     if fine {
         let n = rows_of(s);
-        let at = head(kind, all_lines(kind, s, n), output, text, at);
+        let at = reply::counted(output, text, at, kind.name(), all_lines(kind, s, n));
         rows(kind, s, n, output, text, at)
     } else {
-        reply::refused(output, text, at, 15)
+        reply::refused(output, text, at, Refusal::Store)
     }
 }
 
@@ -228,7 +220,7 @@ pub fn set_rows(s: &mut [u8], n: u32, output: &mut Output, text: &mut [u8], at: 
     ensures { (Says at (within_lines (rows_fit n s.old)) text.old result text.new) × (s.new ≡ rows_set n s.old) }
 {
     if (n as usize) < s.len() / 72 {
-        header::set_count(s, n as u64);
+        header::set_count(s, u64::from(n));
         reply::ok(output, text, at)
     } else {
         reply::error(output, text, at)
@@ -240,10 +232,8 @@ fn sum_from(s: &[u8], start: u64) -> u64
     ensures { result ≡ sum_from start s.now }
 {
     let mut sum = start % 4294967291;
-    let mut i = 0;
-    while i < s.len() {
-        sum = (sum * 257 + words::wide(s[i])) % 4294967291;
-        i += 1;
+    for b in s {
+        sum = (sum * 257 + u64::from(*b)) % 4294967291;
     }
     sum
 }

@@ -1,6 +1,7 @@
 // The words of an answer, put into the answer buffer, and the buffer written out.
 ghost use Rattle.std.specs.Prelude.{◌≡◌, [], ◌∷◌};
 ghost use Rattle.io.specs.Counts.{IsPrefixLen};
+ghost use Rattle.span.specs.Refusal.{number_of, code_of};
 ghost use Rattle.span.specs.Span.{len_span};
 ghost use Rattle.script.specs.Print.{head_line, unit_line, span_line, item_line};
 ghost use Rattle.session.specs.Say.{line_start, Says};
@@ -10,6 +11,7 @@ use crate::console::Output;
 use script::print;
 use span::chunk::RichtextChunk;
 use span::ids::Id;
+use span::refusal::Refusal;
 use span::span::FugueSpan;
 use text::puts::put;
 
@@ -17,7 +19,7 @@ use text::puts::put;
 pub fn within(n: usize, buffer: &[u8]) -> usize
     ensures { IsPrefixLen result buffer.now }
 {
-    if n < buffer.len() { n } else { buffer.len() }
+    n.min(buffer.len())
 }
 
 // Writes the answer out, and answers where the next one starts.
@@ -54,20 +56,19 @@ pub fn error(output: &mut Output, text: &mut [u8], at: usize) -> usize
     put(text, at, b"error\n")
 }
 
-pub fn refused(output: &mut Output, text: &mut [u8], at: usize, code: u8) -> usize
-    ensures { Says at (refused_lines code) text.old result text.new }
+pub fn refused(output: &mut Output, text: &mut [u8], at: usize, refusal: Refusal) -> usize
+    ensures { Says at (refused_lines (number_of refusal)) text.old result text.new }
 {
-    counted(output, text, at, b"no", code as u64)
+    counted(output, text, at, b"no", u64::from(refusal.number()))
 }
 
 // ok, or the refusal
-pub fn done(output: &mut Output, text: &mut [u8], at: usize, code: u8) -> usize
-    ensures { Says at (done_lines code) text.old result text.new }
+pub fn done(output: &mut Output, text: &mut [u8], at: usize, outcome: Result<(), Refusal>) -> usize
+    ensures { Says at (done_lines (code_of outcome)) text.old result text.new }
 {
-    if code == 0 {
-        ok(output, text, at)
-    } else {
-        refused(output, text, at, code)
+    match outcome {
+        Ok(()) => ok(output, text, at),
+        Err(refusal) => refused(output, text, at, refusal),
     }
 }
 

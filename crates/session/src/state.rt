@@ -2,17 +2,16 @@
 ghost use Rattle.std.specs.Prelude.{◌≡◌};
 ghost use Rattle.session.specs.Sessions.{new_session, said_to, with_room, with_targets, with_out, opened_as};
 
-#[derive(Clone, Copy)]
+#[derive(Clone, Copy, Debug, PartialEq, Eq)]
 pub enum Open {
-    Nothing,
     Rope,
     History,
 }
 
-#[derive(Clone, Copy)]
+#[derive(Clone, Copy, Debug, PartialEq, Eq)]
 pub struct Session {
     // What is open, and the rows and target rows lent to it.
-    pub open: Open,
+    pub open: Option<Open>,
     pub lent: u32,
     pub held: u32,
     // What the next opening lends, and the next call.
@@ -28,58 +27,51 @@ impl Session {
     pub fn new() -> Self
         ensures { result ≡ new_session }
     {
-        Session {
-            open: Open::Nothing,
+        Self {
+            open: None,
             lent: 0,
             held: 0,
-            room: 4294967295,
-            targets: 4294967295,
-            out: 4294967295,
+            room: u32::MAX,
+            targets: u32::MAX,
+            out: u32::MAX,
             at: 0,
         }
     }
 
     // More of the answer is written.
-    pub fn said(mut self, at: usize) -> Self
+    pub fn said(self, at: usize) -> Self
         ensures { result ≡ said_to self at }
     {
-        self.at = at;
-        self
+        Self { at, ..self }
     }
 
-    pub fn with_room(mut self, n: u32) -> Self
-        ensures { result ≡ with_room self n }
+    pub fn with_room(self, room: u32) -> Self
+        ensures { result ≡ with_room self room }
     {
-        self.room = n;
-        self
+        Self { room, ..self }
     }
 
-    pub fn with_targets(mut self, n: u32) -> Self
-        ensures { result ≡ with_targets self n }
+    pub fn with_targets(self, targets: u32) -> Self
+        ensures { result ≡ with_targets self targets }
     {
-        self.targets = n;
-        self
+        Self { targets, ..self }
     }
 
-    pub fn with_out(mut self, n: u32) -> Self
-        ensures { result ≡ with_out self n }
+    pub fn with_out(self, out: u32) -> Self
+        ensures { result ≡ with_out self out }
     {
-        self.out = n;
-        self
+        Self { out, ..self }
     }
 
     // A rope or a history is open in the room that was said.
     pub fn opened(self, what: Open) -> Self
         ensures { result ≡ opened_as self what }
     {
-        Session {
-            open: what,
+        Self {
+            open: Some(what),
             lent: self.room,
             held: self.targets,
-            room: self.room,
-            targets: self.targets,
-            out: self.out,
-            at: self.at,
+            ..self
         }
     }
 }

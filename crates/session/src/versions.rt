@@ -1,28 +1,16 @@
 // A version's word as columns: its peers, and its counts by their bits.
 ghost use Rattle.std.specs.Prelude.{◌≡◌, slice_set};
 ghost use Rattle.script.specs.Version.{pair_of};
-ghost use Rattle.session.specs.Columns.{up_to32, pairs_taken, peer_put, count_put, peers_put, counts_put, peers_in, counts_in};
+ghost use Rattle.session.specs.Columns.{pairs_taken, peer_put, count_put, peers_put, counts_put, peers_in, counts_in};
 
 use script::field::IdField;
 use script::version::{pair, pairs};
 
-// The pairs taken of a word: 32 at most. More than 16 are refused, whatever they are.
-fn most(n: usize) -> usize
-    ensures { result ≡ up_to32 n }
-{
-    if n < 32 { n } else { 32 }
-}
+// The pairs taken of a word: more than 16 are refused, whatever they are.
+const MOST: usize = 32;
 
 // At place i, where the column has it.
-fn put32(column: &mut [u32], i: usize, x: u32)
-    ensures { column.new ≡ slice_set column.old i x }
-{
-    if i < column.len() {
-        column[i] = x;
-    }
-}
-
-fn put64(column: &mut [u64], i: usize, x: u64)
+fn put<T: Copy>(column: &mut [T], i: usize, x: T)
     ensures { column.new ≡ slice_set column.old i x }
 {
     if i < column.len() {
@@ -33,22 +21,17 @@ fn put64(column: &mut [u64], i: usize, x: u64)
 fn put_pair(w: &[u8], i: usize, peers: &mut [u64], counts: &mut [u32])
     ensures { (peers.new ≡ peer_put (pair_of w.now i) i peers.old) × (counts.new ≡ count_put (pair_of w.now i) i counts.old) }
 {
-    match pair(w, i) {
-        IdField::Is(id) => {
-            put64(peers, i, id.peer);
-            put32(counts, i, store::counter_bits(id));
-        }
-        IdField::Bad => {}
+    if let IdField::Is(id) = pair(w, i) {
+        put(peers, i, id.peer);
+        put(counts, i, store::counter_bits(id));
     }
 }
 
 fn put_pairs(w: &[u8], n: usize, peers: &mut [u64], counts: &mut [u32])
     ensures { (peers.new ≡ peers_put w.now 0 n peers.old) × (counts.new ≡ counts_put w.now 0 n counts.old) }
 {
-    let mut i = 0;
-    while i < n {
+    for i in 0..n {
         put_pair(w, i, peers, counts);
-        i += 1;
     }
 }
 
@@ -56,7 +39,7 @@ fn put_pairs(w: &[u8], n: usize, peers: &mut [u64], counts: &mut [u32])
 pub fn columns(w: &[u8], peers: &mut [u64], counts: &mut [u32]) -> usize
     ensures { (result ≡ pairs_taken w.now) × (peers.new ≡ peers_in w.now peers.old) × (counts.new ≡ counts_in w.now counts.old) }
 {
-    let n = most(pairs(w));
+    let n = pairs(w).min(MOST);
     put_pairs(w, n, peers, counts);
     n
 }
