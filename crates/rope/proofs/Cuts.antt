@@ -12,7 +12,7 @@ use Rattle.span.specs.declared.status.Status.{Status}
 use Rattle.span.specs.declared.span.FugueSpan.{FugueSpan}
 use Rattle.span.specs.Ids.{UNKNOWN_PEER, room, room_of, room_opt, inc_id}
 use Rattle.span.specs.Maybe.{Counter}
-use Rattle.std.specs.Prelude.{Some, None, Ok}
+use Rattle.std.specs.Prelude.{Some, None, Ok, Err}
 use Rattle.span.specs.Refusal.{refused}
 use Rattle.span.specs.Maybe.{StatusAnswer}
 use Rattle.std.specs.Prelude as OptS
@@ -156,14 +156,14 @@ module _ (f : SetFuture) (k : ℤ) (b : Status) (in_range_lem : in_i16 (b.delete
     where
       value : StatusAnswer → Status
       value (Ok t) = t
-      value (refused n) = b
+      value (Err n) = b
 
   pub status_refused : (n : ℕ) → refused n ≡ times_of b k → b ≡ change_status f k b
   status_refused n e = absurd (false≢true (ap is (e ∙ times_done)))
     where
       is : StatusAnswer → Bool
       is (Ok t) = true
-      is (refused n) = false
+      is (Err n) = false
 
 -- whether a change of a count is refused
 module _ (b : Status) (k : ℤ) where
@@ -173,7 +173,7 @@ module _ (b : Status) (k : ℤ) where
 
   is_done : StatusAnswer → Bool
   is_done (Ok s) = true
-  is_done (refused n) = false
+  is_done (Err n) = false
 
   by_answer : in_i16 (b.delete_times +ℤ k) ≡ is_done (times_of b k)
   unfolding is_done

@@ -13,6 +13,7 @@ use Rattle.std.specs.Prelude.{Some as At}
 use Rattle.span.specs.declared.span.FugueSpan.{FugueSpan}
 use Rattle.span.specs.Answer.{answer}
 use Rattle.span.proofs.AnswerLaws.{is_done, is_refused}
+use Rattle.span.proofs.RefusalLaws.{number_not_zero, answer_err}
 use Rattle.span.specs.Ids.{room_opt}
 use Rattle.span.specs.Status.{activated}
 use Rattle.span.specs.Units.{expand, join}
@@ -22,8 +23,9 @@ use Rattle.store.proofs.Laws.{length-rows}
 use Rattle.rope.specs.declared.change.Delete.{Delete}
 use Rattle.rope.specs.declared.change.Change.TheVariants as Ch
 use Rattle.rope.specs.Maybe.{DeleteAnswer}
-use Rattle.std.specs.Prelude.{Ok as Done}
-use Rattle.span.specs.Refusal.{refused as Refused}
+use Rattle.std.specs.Prelude.{Ok as Done, Err}
+use Rattle.span.specs.declared.refusal.Refusal.{Refusal}
+use Rattle.span.specs.Refusal.{number_of, refused as Refused}
 use Rattle.units.specs.Limits.{fits}
 use Rattle.units.specs.Place.{front, behind, shown}
 use Rattle.units.specs.Store.{count, room, spans_of, well_formed, is_state}
@@ -180,18 +182,20 @@ module _ (s o : List ℕ) (d : Delete) (reversed : Bool) (st : is_state s ≡ tr
       (ap₂ (λ (a b : ℕ). delete_rest a b (spans_of s) d reversed) (sym em) (length-rows (length o / 72) o ∙ sym ep) ∙
       ap (λ (l : List FugueSpan). delete_rest most places l d reversed) (sym (rows_are s st n en)))
 
+  pub some_refused : (r : Refusal) → number_of r ≡ delete_rest most places (rows n (part s)) d reversed → Deleted code list gone (Err r) s o s o
+  some_refused r er =
+      let z = number_not_zero r in
+      let same : number_of r ≡ code = er ∙ sym code_is in
+      record {
+        answered = answer_err r code (length gone) same;
+        store = refused_in code list code s refl (λ e. z (same ∙ e));
+        output = λ e. absurd (z (same ∙ e));
+        kept = λ e. refl;
+      }
+
   module _ (k : ℕ) (ek : k ≡ delete_rest most places (rows n (part s)) d reversed) where
     same_code : k ≡ code
     same_code = ek ∙ sym code_is
-
-    pub some_refused : (k ≡ 0 → ⊥) → Deleted code list gone (Refused k) s o s o
-    some_refused z =
-        record {
-          answered = is_refused Done Refused code k (length gone) z same_code;
-          store = refused_in code list code s refl (λ e. z (same_code ∙ e));
-          output = λ e. absurd (z (same_code ∙ e));
-          kept = λ e. refl;
-        }
 
     module _ (z : k ≡ 0) where
       free : Free most places (rows n (part s)) d reversed

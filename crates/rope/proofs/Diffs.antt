@@ -18,16 +18,16 @@ use Rattle.span.specs.Units.{expand}
 use Rattle.store.specs.Row.{rows, row_at}
 use Rattle.store.proofs.Laws.{length-rows}
 use Rattle.rope.specs.Maybe.{Change}
+use Rattle.std.specs.Prelude.{Option, None, Some}
 use Rattle.std.specs.Prelude.{None as Same, Some as Is}
 use Rattle.rope.specs.declared.diff.Step.{Step}
-use Rattle.rope.specs.declared.diff.Step.TheVariants.{End, Next}
 use Rattle.units.specs.Lists.{every}
 use Rattle.std.specs.Prelude.{None as Nothing, Some as At}
 use Rattle.units.specs.declared.diff.Entry.{Entry}
 use Rattle.units.specs.declared.diff.Entry.TheVariants.{Retain, Delete}
 use Rattle.units.specs.Delta.{lamport_of, insert_of_span, real_if_created, insertable, retain, entry_by, entries_from, entries}
 use Rattle.rope.specs.Spans.{Stored}
-use Rattle.rope.specs.Columns.{change_by, change_of, step_by, Ahead, NextIs, NextOf}
+use Rattle.rope.specs.Columns.{change_by, change_of, step, step_by, Ahead, NextIs, NextOf}
 use Rattle.rope.proofs.Rights.{row_drop, row_none}
 use Rattle.rope.proofs.Counts.{length_span}
 use Rattle.rope.proofs.WellFormed.{formed_of}
@@ -92,11 +92,11 @@ module _ (all : List FugueSpan) (i : ℕ) (r : FugueSpan) (h : i < length all) (
   stop : (gap : ℕ) (e : Entry) → change_of r ≡ Is e → entries_from (drop i all) gap ≡ retain gap (e ∷ entries_from (drop (i + 1) all) 0)
   stop gap e p = ap (λ (l : List FugueSpan). entries_from l gap) at ∙ entries_is r (drop (i + 1) all) gap e p
 
-  pub step_is : (gap : ℕ) (e : Entry) → change_of r ≡ Is e → NextOf all i gap (step_by gap i e)
+  pub step_is : (gap : ℕ) (e : Entry) → change_of r ≡ Is e → NextOf all i gap (Some (step_by gap i e))
   unfolding step_by
   step_is gap e p = go (eqb gap 0) refl
     where
-      go : (t : Bool) → eqb gap 0 ≡ t → NextOf all i gap (cond t (Next e (i + 1) 0) (Next (Retain gap) i 0))
+      go : (t : Bool) → eqb gap 0 ≡ t → NextOf all i gap (Some (cond t (step e (i + 1) 0) (step (Retain gap) i 0)))
       go true q =
           let z : gap ≡ 0 = eqb-true gap 0 q in
           record {
@@ -126,12 +126,12 @@ walked_next l from since i gap r h at w p =
     let g = gap_on l i r h at gap in
     record { low = omega arith; few = omega (arith, g, w.few); is = w.is ∙ skip l i r h at gap p }
 
-pub walked_stop : (l : List FugueSpan) (from since i gap : ℕ) (x : Step) → Walked l from since i gap → NextOf l i gap x → NextOf l from since x
-walked_stop l from since i gap End w p = w.is ∙ p
-walked_stop l from since i gap (Next e j g) w p =
+pub walked_stop : (l : List FugueSpan) (from since i gap : ℕ) (x : Option Step) → Walked l from since i gap → NextOf l i gap x → NextOf l from since x
+walked_stop l from since i gap None w p = w.is ∙ p
+walked_stop l from since i gap (Some x) w p =
     record { low = p.low; few = omega (arith, p.few, w.few); is = w.is ∙ p.is }
 
-pub walked_end : (l : List FugueSpan) (from since i gap : ℕ) → Walked l from since i gap → drop i l ≡ [] → NextOf l from since End
+pub walked_end : (l : List FugueSpan) (from since i gap : ℕ) → Walked l from since i gap → drop i l ≡ [] → NextOf l from since None
 unfolding entries_from
 walked_end l from since i gap w e = w.is ∙ ap (λ (m : List FugueSpan). entries_from m gap) e
 
@@ -153,10 +153,10 @@ module _ (n : ℕ) (s : List ℕ) (from since i gap : ℕ) where
     pub walk_on : (k : ℕ) → k ≡ active_len r → Same ≡ change_of r → Walked (rows n s) from since (i + 1) (gap + k)
     walk_on k e p = rw e (walked_next (rows n s) from since i gap r inside at w (sym p))
 
-    pub walk_stop : (e : Entry) → Is e ≡ change_of r → (x : Step) → x ≡ step_by gap i e → NextOf (rows n s) from since x
-    walk_stop e p x q = rw q (walked_stop (rows n s) from since i gap (step_by gap i e) w (step_is (rows n s) i r inside at gap e (sym p)))
+    pub walk_stop : (e : Entry) → Is e ≡ change_of r → (x : Step) → x ≡ step_by gap i e → NextOf (rows n s) from since (Some x)
+    walk_stop e p x q = rw q (walked_stop (rows n s) from since i gap (Some (step_by gap i e)) w (step_is (rows n s) i r inside at gap e (sym p)))
 
-  pub walk_end : Walked (rows n s) from since i gap → n ≤ i → NextOf (rows n s) from since End
+  pub walk_end : Walked (rows n s) from since i gap → n ≤ i → NextOf (rows n s) from since None
   walk_end w h = walked_end (rows n s) from since i gap w (row_none n s i h)
 
 -- ---- how many entries
@@ -197,7 +197,7 @@ pub insert_by : (s : FugueSpan) (d : DiffStatus) → diff_of s ≡ d → real_if
 unfolding insertable
 insert_by s d e = sym (ap (λ (x : DiffStatus). real_if_created x s.real_id) e)
 
-pub step_by_lem : (gap i : ℕ) (e : Entry) (t : Bool) → eqb gap 0 ≡ t → cond t (Next e (i + 1) 0) (Next (Retain gap) i 0) ≡ step_by gap i e
+pub step_by_lem : (gap i : ℕ) (e : Entry) (t : Bool) → eqb gap 0 ≡ t → cond t (step e (i + 1) 0) (step (Retain gap) i 0) ≡ step_by gap i e
 unfolding step_by
 step_by_lem gap i e t p = sym (ap (λ (b : Bool). cond b (Next e (i + 1) 0) (Next (Retain gap) i 0)) p)
 
@@ -224,16 +224,12 @@ unfolding entries
 going_start n s w = record { ahead = record { stored = w; low = omega arith; few = omega (arith, (formed_of (rows n s) w.formed).units) }; is = omega arith }
 
 module _ (n : ℕ) (s : List ℕ) (i gap k : ℕ) (v : Going n s i gap k) where
-  pub going_end : (x : Step) → x ≡ End → NextOf (rows n s) i gap x → k ≡ length (entries (rows n s))
-  going_end x e p =
-      let q : entries_from (drop i (rows n s)) gap ≡ [] = rw e at p in
+  pub going_end : entries_from (drop i (rows n s)) gap ≡ [] → k ≡ length (entries (rows n s))
+  going_end q =
       let z : length (entries_from (drop i (rows n s)) gap) ≡ 0 = ap length q in
       omega (arith, v.is, z)
 
-  module _ (x : Step) (e : Entry) (j g : ℕ) (at : x ≡ Next e j g) (p : NextOf (rows n s) i gap x) where
-    pub next_is : NextIs (rows n s) i gap e j g
-    next_is = rw at at p
-
+  module _ (e : Entry) (j g : ℕ) (next_is : NextIs (rows n s) i gap e j g) where
     pub going_less : length (entries_from (drop j (rows n s)) g) < length (entries_from (drop i (rows n s)) gap)
     going_less = let z : length (entries_from (drop i (rows n s)) gap) ≡ suc (length (entries_from (drop j (rows n s)) g)) = ap length next_is.is in omega (arith, z)
 

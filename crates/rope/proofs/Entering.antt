@@ -11,10 +11,12 @@ use borrow.Author.Tests.{eqb-true, eqb-false}
 use Rattle.words.specs.Le.{bytes_of, put}
 use Rattle.span.specs.declared.span.FugueSpan.{FugueSpan}
 use Rattle.span.specs.Maybe.{SpanAnswer}
-use Rattle.std.specs.Prelude.{Ok as Done}
-use Rattle.span.specs.Refusal.{refused as Refused}
+use Rattle.std.specs.Prelude.{Ok as Done, Err}
+use Rattle.span.specs.declared.refusal.Refusal.{Refusal}
+use Rattle.span.specs.Refusal.{number_of, refusal_of, refused as Refused}
 use Rattle.span.specs.Answer.{answer}
-use Rattle.span.specs.Span.{span_code}
+use Rattle.span.specs.Chunk.{formed}
+use Rattle.span.specs.Span.{len_span, ids_ok, span_code}
 use Rattle.span.specs.Units.{expand, join}
 use Rattle.store.specs.Row.{rows}
 use Rattle.rope.specs.declared.insert.Plan.{Plan}
@@ -159,18 +161,28 @@ module _ (s : List ℕ) (at : ℕ) (x : FugueSpan) (st : is_state s ≡ true) (f
 
 -- ---- insert
 
+-- the refusals of a span are 1 and 2
+span_number : (x : FugueSpan) → (span_code x ≡ 0 → ⊥) → number_of (refusal_of (span_code x)) ≡ span_code x
+unfolding span_code refusal_of
+span_number x n = go (formed x.content) (ids_ok x (len_span x)) n
+  where
+    go : (a b : Bool) → (cond a (cond b 0 2) 1 ≡ 0 → ⊥) → number_of (refusal_of (cond a (cond b 0 2) 1)) ≡ cond a (cond b 0 2) 1
+    go false b m = refl
+    go true false m = refl
+    go true true m = absurd (m refl)
+
 -- what an answer says
 answer_code : SpanAnswer → ℕ
 answer_code (Done x) = 0
-answer_code (Refused k) = k
+answer_code (Err e) = number_of e
 
 answer_span : FugueSpan → SpanAnswer → FugueSpan
 answer_span d (Done x) = x
-answer_span d (Refused k) = d
+answer_span d (Err e) = d
 
 is_span : SpanAnswer → Bool
 is_span (Done x) = true
-is_span (Refused k) = false
+is_span (Err e) = false
 
 module _ (a : SpanAnswer) (x : FugueSpan) (e : a ≡ answer Done Refused (span_code x) x) where
   -- by the code
@@ -178,13 +190,13 @@ module _ (a : SpanAnswer) (x : FugueSpan) (e : a ≡ answer Done Refused (span_c
   unfolding answer
   by_code t q = e ∙ ap (λ (b : Bool). cond b (Done x) (Refused (span_code x))) q
 
-  pub said_refused : (k : ℕ) → a ≡ Refused k → (k ≡ span_code x) × (span_code x ≡ 0 → ⊥)
+  pub said_refused : (k : Refusal) → a ≡ Err k → (number_of k ≡ span_code x) × (span_code x ≡ 0 → ⊥)
   unfolding is_span answer_code
   said_refused k f = go (eqb (span_code x) 0) refl
     where
-      go : (t : Bool) → eqb (span_code x) 0 ≡ t → (k ≡ span_code x) × (span_code x ≡ 0 → ⊥)
+      go : (t : Bool) → eqb (span_code x) 0 ≡ t → (number_of k ≡ span_code x) × (span_code x ≡ 0 → ⊥)
       go true q = absurd (true≢false (ap is_span (sym (by_code true q) ∙ f)))
-      go false q = (ap answer_code (sym f ∙ by_code false q), eqb-false (span_code x) 0 q)
+      go false q = (ap answer_code (sym f ∙ by_code false q) ∙ span_number x (eqb-false (span_code x) 0 q), eqb-false (span_code x) 0 q)
 
   pub said_done : (y : FugueSpan) → a ≡ Done y → (y ≡ x) × (span_code y ≡ 0)
   unfolding is_span answer_span
@@ -207,10 +219,10 @@ module _ (s : List ℕ) (at : ℕ) (x : FugueSpan) where
   insert_none e = refused_in (insert_number s at x) (insert_list s at x) 15 s (number_none e) (λ z. omega (arith, z))
 
   module _ (st : is_state s ≡ true) (a : SpanAnswer) (ea : a ≡ answer Done Refused (span_code x) x) where
-    pub insert_refused : (k : ℕ) → a ≡ Refused k → EditedIn (insert_number s at x) (insert_list s at x) k s s
+    pub insert_refused : (k : Refusal) → a ≡ Err k → EditedIn (insert_number s at x) (insert_list s at x) (number_of k) s s
     insert_refused k f =
         let w = said_refused a x ea k f in
-        refused_in (insert_number s at x) (insert_list s at x) k s
+        refused_in (insert_number s at x) (insert_list s at x) (number_of k) s
         (w.0 ∙ (sym (code_span (room s) (spans_of s) at x (state_formed s st (count s) refl) w.1) ∙ number_state st))
         (λ z. w.1 (sym w.0 ∙ z))
 

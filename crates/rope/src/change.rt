@@ -44,6 +44,7 @@ pub struct Part {
 }
 
 // A span with other statuses and another real id.
+#[tactic(auto, unfolding(units::specs::Change::with_state))]
 pub fn with_state(u: FugueSpan, status: Status, diff: Option<Status>, real: Option<Id>) -> FugueSpan
     ensures { result ≡ with_state u status diff real }
 {
@@ -57,6 +58,7 @@ pub fn with_state(u: FugueSpan, status: Status, diff: Option<Status>, real: Opti
 
 impl Delete {
     // The units of a row that it takes.
+    #[tactic(auto, unfolding(crate::specs::Pieces::delete_cut))]
     pub fn cut(self, row: FugueSpan) -> Part
         requires { CanDelete self }
         ensures { result ≡ delete_cut self row }
@@ -69,6 +71,7 @@ impl Delete {
     }
 
     // What is left of it for the rows after.
+    #[tactic(auto, unfolding(crate::specs::Pieces::delete_after, crate::specs::Pieces::took_of, crate::specs::Pieces::delete_cut), using(crate::proofs::Cuts::own_room, crate::proofs::Cuts::took_most))]
     pub fn after(self, row: FugueSpan) -> Self
         requires { CanDelete self }
         ensures { result ≡ delete_after self row }
@@ -83,6 +86,7 @@ impl Delete {
     }
 
     // A piece that it takes.
+    #[tactic(auto, unfolding(units::specs::Change::delete_unit, units::specs::Change::with_state), using(crate::proofs::Cuts::gone))]
     pub fn changed(self, piece: FugueSpan) -> FugueSpan
         requires { activated piece.status ≡ true }
         ensures { result ≡ delete_unit self.start piece }
@@ -101,6 +105,7 @@ impl Delete {
 
 impl Update {
     // The units of a row that it changes.
+    #[tactic(auto, unfolding(crate::specs::Pieces::update_cut))]
     pub fn cut(self, row: FugueSpan) -> Part
         ensures { result ≡ update_cut self row }
     {
@@ -111,6 +116,7 @@ impl Update {
     }
 
     // The same of len units of its peer from counter c on.
+    #[tactic(auto, unfolding(crate::specs::Pieces::part_at))]
     pub fn part_at(self, c: u32, len: u32) -> Part
         ensures { result ≡ part_at self c len }
     {
@@ -121,6 +127,7 @@ impl Update {
     }
 
     // The status of a piece that it works on.
+    #[tactic(auto, unfolding(units::specs::Change::base_of))]
     pub fn base(self, piece: FugueSpan) -> Status
         ensures { result ≡ base_of self.diff piece }
     {
@@ -132,6 +139,7 @@ impl Update {
     }
 
     // That status, changed.
+    #[tactic(auto, unfolding(units::specs::Change::change_status, span::specs::Status::in_i16))]
     pub fn status(self, base: Status) -> Status
         requires { in_i16 (base.delete_times +ℤ self.change) ≡ true }
         ensures { result ≡ change_status self.set self.change base }
@@ -143,6 +151,7 @@ impl Update {
     }
 
     // A piece that it changes.
+    #[tactic(auto, unfolding(units::specs::Change::update_unit, units::specs::Change::with_state))]
     pub fn changed(self, piece: FugueSpan) -> FugueSpan
         requires { in_i16 ((base_of self.diff piece).delete_times +ℤ self.change) ≡ true }
         ensures { result ≡ update_unit self.set self.change self.diff piece }
@@ -164,6 +173,7 @@ impl Update {
 
 impl Change {
     // The units of a row that change.
+    #[tactic(auto, unfolding(crate::specs::Pieces::cut_of, crate::specs::Pieces::CanCut))]
     pub fn cut(self, row: FugueSpan) -> Part
         requires { CanCut self }
         ensures { result ≡ cut_of self row }
@@ -175,6 +185,7 @@ impl Change {
     }
 
     // What is left of the change for the rows after.
+    #[tactic(auto, unfolding(crate::specs::Pieces::after_of, crate::specs::Pieces::CanCut))]
     pub fn after(self, row: FugueSpan) -> Self
         requires { CanCut self }
         ensures { result ≡ after_of self row }
@@ -186,6 +197,7 @@ impl Change {
     }
 
     // A piece that changes.
+    #[tactic(auto, unfolding(crate::specs::Pieces::change_span, crate::specs::Pieces::CanChange))]
     pub fn changed(self, piece: FugueSpan) -> FugueSpan
         requires { CanChange self piece }
         ensures { result ≡ change_span self piece }

@@ -38,6 +38,7 @@ pub struct EntryNumbers {
 // ---- One span
 
 // The lamport of an Insert: none for the unknown peer.
+#[tactic(auto, unfolding(units::specs::Delta::lamport_of))]
 fn lamport_of(row: FugueSpan) -> Option<u32>
     ensures { result ≡ lamport_of row }
 {
@@ -48,6 +49,7 @@ fn lamport_of(row: FugueSpan) -> Option<u32>
     }
 }
 
+#[tactic(auto, unfolding(units::specs::Delta::insert_of_span))]
 fn insert_of(row: FugueSpan) -> Entry
     ensures { result ≡ insert_of_span row }
 {
@@ -55,6 +57,7 @@ fn insert_of(row: FugueSpan) -> Entry
 }
 
 // What becomes of a span, as an entry.
+#[tactic(auto, unfolding(crate::specs::Columns::change_of))]
 pub fn change_of(row: FugueSpan) -> Option<Entry>
     ensures { result ≡ change_of row }
 {
@@ -66,6 +69,7 @@ pub fn change_of(row: FugueSpan) -> Option<Entry>
 }
 
 // Whether the delta may have this span: what comes in needs a real id.
+#[tactic(auto, unfolding(units::specs::Delta::insertable))]
 fn can_insert(row: FugueSpan) -> bool
     ensures { result ≡ insertable row }
 {
@@ -75,6 +79,7 @@ fn can_insert(row: FugueSpan) -> bool
 // ---- One entry after the other
 
 // A change of row i after a gap: the gap is given first, as a Retain, and the change the next time.
+#[tactic(auto, unfolding(crate::specs::Columns::step_by))]
 fn gap_first(gap: u32, i: usize, entry: Entry) -> Step
     requires { i < 18446744073709551615 }
     ensures { result ≡ step_by gap i entry }
@@ -142,6 +147,7 @@ pub fn count_entries(s: &[u8], n: usize) -> usize
 // ---- Columns
 
 // An entry as numbers.
+#[tactic(auto, unfolding(crate::specs::Columns::entry_numbers))]
 pub fn numbers_of(entry: Entry) -> EntryNumbers
     ensures { result ≡ entry_numbers entry }
 {

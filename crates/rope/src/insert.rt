@@ -22,6 +22,7 @@ pub enum Plan {
 
 impl Plan {
     // The number of rows after it, where it was n: known before anything is written (refusal 10).
+    #[tactic(auto, unfolding(crate::specs::Plans::plan_rows))]
     pub fn rows(self, n: usize) -> usize
         requires { n ≤ 65536 }
         ensures { result ≡ plan_rows self n }
@@ -49,6 +50,7 @@ pub fn plan_border(s: &[u8], n: usize, r: usize, y: FugueSpan) -> Plan
 }
 
 // The span with other origins.
+#[tactic(auto, unfolding(units::specs::Place::with_origins))]
 pub fn with_origins(x: FugueSpan, left: Option<Id>, right: Option<Id>) -> FugueSpan
     ensures { result ≡ with_origins x left right }
 {

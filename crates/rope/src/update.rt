@@ -35,6 +35,7 @@ pub fn update_rows(s: &mut [u8], n: usize, u: Update) -> usize
 }
 
 // Whether an update keeps the count of a span within i16.
+#[tactic(auto, unfolding(span::specs::Status::times_of))]
 pub fn base_fits(u: Update, row: FugueSpan) -> bool
     ensures { result ≡ in_i16 ((base_of u.diff row).delete_times +ℤ u.change) }
 {
@@ -42,6 +43,7 @@ pub fn base_fits(u: Update, row: FugueSpan) -> bool
 }
 
 // The same of the units of a row that it changes. (The row is one of a well formed list, which the entry asked.)
+#[tactic(auto, using(crate::proofs::Updating::row_some, crate::proofs::Updating::row_empty))]
 pub fn row_fits(u: Update, row: FugueSpan) -> bool
     requires { (span_code row ≡ 0) × (u.from ≤ u.to) }
     ensures { result ≡ counts_fit u.peer (pos u.from) (pos u.to) u.change u.diff (units_of row) }
@@ -64,6 +66,7 @@ pub fn counts_fit(s: &[u8], n: usize, u: Update) -> bool
 }
 
 // How many units of a row an update changes. (The row is one of a well formed list, which the entry asked.)
+#[tactic(auto, using(crate::proofs::Held::inside_row))]
 pub fn part_len(u: Update, row: FugueSpan) -> usize
     requires { (span_code row ≡ 0) × (u.from ≤ u.to) }
     ensures { (result ≡ length (keep_if (in_range u.peer (pos u.from) (pos u.to)) (units_of row))) × (result < 4294967296) }

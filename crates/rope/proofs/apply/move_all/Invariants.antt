@@ -1,12 +1,9 @@
 use mathlib.Core.List.{◌++◌}
-use Prim.Native.Nat.{◌+◌, ◌-◌, ◌≤◌}
+use Prim.Native.Nat.{◌+◌}
 use mathlib.Core.Path.{◌≡◌}
 use Rattle.store.specs.Row.{rows}
 use lib.ListN.{length, take}
 use Rattle.rope.proofs.apply.move_all.Given as goal
 
 abbrev pub invariant-loop-j : goal.invariant-loop-j
-invariant-loop-j l = (l.j ≤ l.m) × (length l.s ≡ length l.initial.s) × (rows (l.w + l.j) l.s ≡ rows l.w l.initial.s ++ take l.j (rows l.m l.q))
-
-abbrev pub decreases-loop-j : goal.decreases-loop-j
-decreases-loop-j l = l.m - l.j
+invariant-loop-j l = (length l.s ≡ length l.initial.s) × (rows (l.w + l.j) l.s ≡ rows l.w l.initial.s ++ take l.j (rows l.m l.q))

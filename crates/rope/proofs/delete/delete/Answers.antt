@@ -3,9 +3,11 @@ use borrow.Author.Tests.{not-true, not-false}
 use Rattle.rope.proofs.Deletion.{delete_none, delete_empty, delete_some}
 use mathlib.Core.Path.{ap}
 use mathlib.Core.Bool.{not}
+use Rattle.span.specs.Refusal.{refusal_of}
 use Rattle.rope.proofs.delete.delete.Goals as goal
 
 pub returns-then-not-check : goal.returns-then-not-check
+unfolding refusal_of
 returns-then-not-check c = let a = c.args in delete_none a.s.now a.out.now a.pos a.len a.start a.reversed (sym c.check.ensures ∙ not-true _ (ap not c.if-not-check.true))
 
 pub returns-then-len-eq0 : goal.returns-then-len-eq0

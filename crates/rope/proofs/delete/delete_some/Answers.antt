@@ -1,5 +1,6 @@
 use Prim.Native.Nat.{◌/◌}
 use lib.ListN.{length}
+use Rattle.std.proofs.lemmas.Result.{err_from_is_err_and}
 use mathlib.Core.Path.{refl}
 use Rattle.rope.proofs.Entering.{state_head}
 use Rattle.rope.proofs.Deletion.{some_asks, some_refused, some_report, some_room, some_removes, some_done}
@@ -14,11 +15,11 @@ slice_bounds-refuse_delete-count c = state_head c.args.s.now c.requires.0
 pub slice_bounds-refuse_delete-start : goal.slice_bounds-refuse_delete-start
 slice_bounds-refuse_delete-start c = state_head c.args.s.now c.requires.0
 
-pub refuse_delete-code-requires : goal.refuse_delete-code-requires
-refuse_delete-code-requires c = let a = c.args in some_asks a.s.now a.out.now a.d a.reversed c.requires.0 c.requires.1 c.count-n.result c.count-n.ensures c.room-most.result c.room-most.ensures (length a.out.now / 72) refl
+pub refuse_delete-requires : goal.refuse_delete-requires
+refuse_delete-requires c = let a = c.args in some_asks a.s.now a.out.now a.d a.reversed c.requires.0 c.requires.1 c.count-n.result c.count-n.ensures c.room-most.result c.room-most.ensures (length a.out.now / 72) refl
 
-pub returns-then-code-ne0 : goal.returns-then-code-ne0
-returns-then-code-ne0 c = let a = c.args in some_refused a.s.now a.out.now a.d a.reversed c.requires.0 c.requires.1 c.count-n.result c.count-n.ensures c.room-most.result c.room-most.ensures (length a.out.now / 72) refl c.refuse_delete-code.result c.refuse_delete-code.ensures c.if-code-ne0.true
+pub returns-in_err-refuse_delete : goal.returns-in_err-refuse_delete
+returns-in_err-refuse_delete c = let a = c.args in let p = err_from_is_err_and c.from_residual.result c.from_residual.ensures.1 in rw (p.1, p.2) (some_refused a.s.now a.out.now a.d a.reversed c.requires.0 c.requires.1 c.count-n.result c.count-n.ensures c.room-most.result c.room-most.ensures (length a.out.now / 72) refl _ c.in_err-refuse_delete.ensures)
 
 pub slice_bounds-report-count : goal.slice_bounds-report-count
 slice_bounds-report-count c = state_head c.args.s.now c.requires.0
@@ -27,10 +28,10 @@ pub slice_bounds-report-start : goal.slice_bounds-report-start
 slice_bounds-report-start c = state_head c.args.s.now c.requires.0
 
 pub report-k-requires : goal.report-k-requires
-report-k-requires c = let a = c.args in (some_report a.s.now a.out.now a.d a.reversed c.requires.0 c.requires.1 c.count-n.result c.count-n.ensures c.room-most.result c.room-most.ensures (length a.out.now / 72) refl c.refuse_delete-code.result c.refuse_delete-code.ensures c.if-code-ne0.false, some_room a.s.now a.out.now a.d a.reversed c.requires.0 c.requires.1 c.count-n.result c.count-n.ensures c.room-most.result c.room-most.ensures (length a.out.now / 72) refl c.refuse_delete-code.result c.refuse_delete-code.ensures c.if-code-ne0.false)
+report-k-requires c = let a = c.args in (some_report a.s.now a.out.now a.d a.reversed c.requires.0 c.requires.1 c.count-n.result c.count-n.ensures c.room-most.result c.room-most.ensures (length a.out.now / 72) refl 0 c.in_ok-refuse_delete.ensures refl, some_room a.s.now a.out.now a.d a.reversed c.requires.0 c.requires.1 c.count-n.result c.count-n.ensures c.room-most.result c.room-most.ensures (length a.out.now / 72) refl 0 c.in_ok-refuse_delete.ensures refl)
 
 pub write_delete-requires : goal.write_delete-requires
-write_delete-requires c = let a = c.args in some_removes a.s.now a.out.now a.d a.reversed c.requires.0 c.requires.1 c.count-n.result c.count-n.ensures c.room-most.result c.room-most.ensures (length a.out.now / 72) refl c.refuse_delete-code.result c.refuse_delete-code.ensures c.if-code-ne0.false
+write_delete-requires c = let a = c.args in some_removes a.s.now a.out.now a.d a.reversed c.requires.0 c.requires.1 c.count-n.result c.count-n.ensures c.room-most.result c.room-most.ensures (length a.out.now / 72) refl 0 c.in_ok-refuse_delete.ensures refl
 
 pub returns : goal.returns
-returns c = let a = c.args in some_done a.s.now a.out.now a.d a.reversed c.requires.0 c.requires.1 c.count-n.result c.count-n.ensures c.room-most.result c.room-most.ensures (length a.out.now / 72) refl c.refuse_delete-code.result c.refuse_delete-code.ensures c.if-code-ne0.false c.report-k.result c.write_delete.new.s c.report-k.new.out c.report-k.ensures c.write_delete.ensures
+returns c = let a = c.args in some_done a.s.now a.out.now a.d a.reversed c.requires.0 c.requires.1 c.count-n.result c.count-n.ensures c.room-most.result c.room-most.ensures (length a.out.now / 72) refl 0 c.in_ok-refuse_delete.ensures refl c.report-k.result c.write_delete.new.s c.report-k.new.out c.report-k.ensures c.write_delete.ensures

@@ -1,4 +1,3 @@
-use Prim.Native.Nat.{◌-◌, ◌≤◌}
 use mathlib.Core.Path.{◌≡◌}
 use lib.ListN.{drop}
 use Rattle.store.specs.Row.{rows}
@@ -7,7 +6,4 @@ use Rattle.units.specs.Delta.{insertable}
 use Rattle.rope.proofs.diff.all_real.Given as goal
 
 abbrev pub invariant-loop-i : goal.invariant-loop-i
-invariant-loop-i l = (l.i ≤ l.n) × (every insertable (rows l.n l.s) ≡ every insertable (drop l.i (rows l.n l.s)))
-
-abbrev pub decreases-loop-i : goal.decreases-loop-i
-decreases-loop-i l = l.n - l.i
+invariant-loop-i l = every insertable (rows l.n l.s) ≡ every insertable (drop l.i (rows l.n l.s))

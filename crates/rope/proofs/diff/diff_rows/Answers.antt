@@ -6,6 +6,7 @@ use Rattle.rope.specs.Columns.{least}
 use Rattle.units.specs.Delta.{entries}
 use native.Mathlib.Omega.{arith}
 use borrow.Author.Tests.{not-true, not-false}
+use Rattle.span.specs.Refusal.{refusal_of}
 use Rattle.rope.proofs.Fills.{rows_code_real, rows_code_full, rows_code_done, diffed_refused, diffed_done}
 use mathlib.Core.Path.{ap}
 use mathlib.Core.Bool.{not}
@@ -22,9 +23,11 @@ room : (c : Else-room-many) → let x = c.args in
 room c = fit _ _ _ _ c.if-room-many.false c.shortest-room.ensures c.count_entries-many.ensures
 
 pub returns-then-not-all_real : goal.returns-then-not-all_real
+unfolding refusal_of
 returns-then-not-all_real c = diffed_refused _ _ _ _ _ _ _ _ 12 (rows_code_real _ _ (sym c.all_real.ensures ∙ not-true _ (ap not c.if-not-all_real.true))) (λ z. omega arith)
 
 pub returns-then-room-many : goal.returns-then-room-many
+unfolding refusal_of
 returns-then-room-many c = diffed_refused _ _ _ _ _ _ _ _ 13 (rows_code_full _ _ (sym c.all_real.ensures ∙ not-false _ (ap not c.if-not-all_real.false)) (omega (arith, c.if-room-many.true, c.shortest-room.ensures, c.count_entries-many.ensures))) (λ z. omega arith)
 
 pub returns : goal.returns

@@ -1,4 +1,7 @@
 use Rattle.rope.proofs.Entering.{state_head, state_rows, state_few, span_asked, span_first, span_ready, span_full, span_writable, span_done}
+use Rattle.span.proofs.RefusalLaws.{number_not_zero}
+use Rattle.std.proofs.lemmas.Result.{err_from_is_err_and}
+use mathlib.Core.Path.{refl}
 use Rattle.rope.proofs.edit.insert_span.Goals as goal
 
 pub count-n-requires : goal.count-n-requires
@@ -19,15 +22,17 @@ slice_bounds-first_code-count c = state_head c.args.s.now c.requires.0
 pub slice_bounds-first_code-start : goal.slice_bounds-first_code-start
 slice_bounds-first_code-start c = state_head c.args.s.now c.requires.0
 
-pub first_code-code-requires : goal.first_code-code-requires
-first_code-code-requires c =
+pub first_code-requires : goal.first_code-requires
+first_code-requires c =
     let a = c.args in
     span_asked a.s.now a.pos a.x c.requires.0 c.requires.1 c.count-n.result c.count-n.ensures c.units-sum.result c.units-sum.ensures
 
-pub returns-then-code-ne0 : goal.returns-then-code-ne0
-returns-then-code-ne0 c =
+pub returns-in_err-first_code : goal.returns-in_err-first_code
+returns-in_err-first_code c =
     let a = c.args in
-    span_first a.s.now a.pos a.x c.requires.0 c.requires.1 c.count-n.result c.count-n.ensures c.units-sum.result c.units-sum.ensures c.first_code-code.result c.first_code-code.ensures c.if-code-ne0.true
+    let p = err_from_is_err_and c.from_residual.result c.from_residual.ensures.1 in
+    rw (p.1, p.2)
+    (span_first a.s.now a.pos a.x c.requires.0 c.requires.1 c.count-n.result c.count-n.ensures c.units-sum.result c.units-sum.ensures _ c.in_err-first_code.ensures (number_not_zero _))
 
 pub slice_bounds-plan_insert-count : goal.slice_bounds-plan_insert-count
 slice_bounds-plan_insert-count c = state_head c.args.s.now c.requires.0
@@ -38,7 +43,7 @@ slice_bounds-plan_insert-start c = state_head c.args.s.now c.requires.0
 pub plan_insert-p-requires : goal.plan_insert-p-requires
 plan_insert-p-requires c =
     let a = c.args in
-    span_ready a.s.now a.pos a.x c.requires.0 c.requires.1 c.count-n.result c.count-n.ensures c.units-sum.result c.units-sum.ensures c.first_code-code.result c.first_code-code.ensures c.if-code-ne0.false
+    span_ready a.s.now a.pos a.x c.requires.0 c.requires.1 c.count-n.result c.count-n.ensures c.units-sum.result c.units-sum.ensures 0 c.in_ok-first_code.ensures refl
 
 pub rows-requires : goal.rows-requires
 rows-requires c = state_few c.args.s.now c.requires.0 c.count-n.result c.count-n.ensures
@@ -46,17 +51,17 @@ rows-requires c = state_few c.args.s.now c.requires.0 c.count-n.result c.count-n
 pub returns-then-room-rows : goal.returns-then-room-rows
 returns-then-room-rows c =
     let a = c.args in
-    span_full a.s.now a.pos a.x c.requires.0 c.requires.1 c.count-n.result c.count-n.ensures c.units-sum.result c.units-sum.ensures c.first_code-code.result c.first_code-code.ensures c.if-code-ne0.false
+    span_full a.s.now a.pos a.x c.requires.0 c.requires.1 c.count-n.result c.count-n.ensures c.units-sum.result c.units-sum.ensures 0 c.in_ok-first_code.ensures refl
     c.plan_insert-p.result c.plan_insert-p.ensures c.room.result c.rows.result c.room.ensures c.rows.ensures c.if-room-rows.true
 
 pub write_plan-requires : goal.write_plan-requires
 write_plan-requires c =
     let a = c.args in
-    span_writable a.s.now a.pos a.x c.requires.0 c.requires.1 c.count-n.result c.count-n.ensures c.units-sum.result c.units-sum.ensures c.first_code-code.result c.first_code-code.ensures c.if-code-ne0.false
+    span_writable a.s.now a.pos a.x c.requires.0 c.requires.1 c.count-n.result c.count-n.ensures c.units-sum.result c.units-sum.ensures 0 c.in_ok-first_code.ensures refl
     c.plan_insert-p.result c.plan_insert-p.ensures c.room.result c.rows.result c.room.ensures c.rows.ensures c.if-room-rows.false
 
 pub returns : goal.returns
 returns c =
     let a = c.args in
-    span_done a.s.now a.pos a.x c.requires.0 c.requires.1 c.count-n.result c.count-n.ensures c.units-sum.result c.units-sum.ensures c.first_code-code.result c.first_code-code.ensures c.if-code-ne0.false
+    span_done a.s.now a.pos a.x c.requires.0 c.requires.1 c.count-n.result c.count-n.ensures c.units-sum.result c.units-sum.ensures 0 c.in_ok-first_code.ensures refl
     c.plan_insert-p.result c.plan_insert-p.ensures c.room.result c.rows.result c.room.ensures c.rows.ensures c.if-room-rows.false _ c.write_plan.ensures

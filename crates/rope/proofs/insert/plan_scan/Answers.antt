@@ -10,9 +10,9 @@ overflow_add-at c =
 pub plan_border-requires : goal.plan_border-requires
 plan_border-requires c =
     let a = c.args in
-    scan_border a.n a.units a.at a.left a.x a.s.now c.requires c.right_from-right.result c.scan_from-r.result c.right_from-right.ensures c.scan_from-r.ensures c.with_origins-y.result c.with_origins-y.ensures
+    scan_border a.n a.units a.at a.left a.x a.s.now c.requires c.right_from-right.result c.scan_from-r.result c.right_from-right.ensures c.scan_from-r.ensures c.with_origins.result c.with_origins.ensures
 
 pub returns : goal.returns
 returns c =
     let a = c.args in
-    scan_plan a.n a.units a.at a.left a.x a.s.now c.requires c.right_from-right.result c.scan_from-r.result c.right_from-right.ensures c.scan_from-r.ensures c.with_origins-y.result c.with_origins-y.ensures c.plan_border.result c.plan_border.ensures
+    scan_plan a.n a.units a.at a.left a.x a.s.now c.requires c.right_from-right.result c.scan_from-r.result c.right_from-right.ensures c.scan_from-r.ensures c.with_origins.result c.with_origins.ensures c.plan_border.result c.plan_border.ensures

@@ -17,10 +17,10 @@ pub row_fits-requires : goal.row_fits-requires
 row_fits-requires c = let a = c.args in (subst (λ (r : FugueSpan). span_code r ≡ 0) (sym c.get_row.ensures) (row_ok a.n a.s.now c.loop-i.i c.loop-i-test.true c.requires.1), c.requires.2)
 
 pub returns-then-not-row_fits : goal.returns-then-not-row_fits
-returns-then-not-row_fits c = let l = c.loop-i in let a = c.args in sym (l.invariant.1 ∙ fits_turn a.u a.n a.s.now l.i c.loop-i-test.true false (ap (λ (r : FugueSpan). counts_fit a.u.peer (pos a.u.from) (pos a.u.to) a.u.change a.u.diff (units_of r)) (sym c.get_row.ensures) ∙ (sym c.row_fits.ensures ∙ not-true _ (ap not c.if-not-row_fits.true))))
+returns-then-not-row_fits c = let l = c.loop-i in let a = c.args in sym (l.invariant ∙ fits_turn a.u a.n a.s.now l.i c.loop-i-test.true false (ap (λ (r : FugueSpan). counts_fit a.u.peer (pos a.u.from) (pos a.u.to) a.u.change a.u.diff (units_of r)) (sym c.get_row.ensures) ∙ (sym c.row_fits.ensures ∙ not-true _ (ap not c.if-not-row_fits.true))))
 
 pub loop-i-preserved : goal.loop-i-preserved
-loop-i-preserved c = let l = c.loop-i in let a = c.args in (omega (arith, c.loop-i-test.true), l.invariant.1 ∙ fits_turn a.u a.n a.s.now l.i c.loop-i-test.true true (ap (λ (r : FugueSpan). counts_fit a.u.peer (pos a.u.from) (pos a.u.to) a.u.change a.u.diff (units_of r)) (sym c.get_row.ensures) ∙ (sym c.row_fits.ensures ∙ not-false _ (ap not c.if-not-row_fits.false))))
+loop-i-preserved c = let l = c.loop-i in let a = c.args in l.invariant ∙ fits_turn a.u a.n a.s.now l.i c.loop-i-test.true true (ap (λ (r : FugueSpan). counts_fit a.u.peer (pos a.u.from) (pos a.u.to) a.u.change a.u.diff (units_of r)) (sym c.get_row.ensures) ∙ (sym c.row_fits.ensures ∙ not-false _ (ap not c.if-not-row_fits.false)))
 
 pub returns : goal.returns
-returns c = let l = c.loop-i in let a = c.args in sym (l.invariant.1 ∙ fits_done a.u a.n a.s.now l.i (omega (arith, c.loop-i-test.false)))
+returns c = let l = c.loop-i in let a = c.args in sym (l.invariant ∙ fits_done a.u a.n a.s.now l.i (omega (arith, c.loop-i-test.false)))
