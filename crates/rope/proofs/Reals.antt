@@ -17,7 +17,6 @@ use Rattle.span.specs.Span.{len_span, span_code, part_span, shift, slice_span_co
 use Rattle.span.proofs.Unique.{in_range_lem}
 use Rattle.span.proofs.UnitLaws.{part_length}
 use Rattle.store.specs.Row.{rows, row_at}
-use Rattle.rope.specs.declared.query.RealAnswer.TheVariants as Real
 use Rattle.units.specs.Query.{Nothing, At, real_span_at}
 use Rattle.rope.specs.Entries.{real_said}
 use Rattle.rope.specs.Spans.{Stored}
@@ -62,11 +61,11 @@ module _ (n : ℕ) (s : List ℕ) (i left : ℕ) where
         let a : active_len r ≡ len_span r = active_whole r (omega arith) in
         in_range_lem r left len ok k (omega arith)
 
-    pub real_found : left < len → (p : FugueSpan) → p ≡ part_span r left len → (x : Id) (m : ℕ) → x ≡ real_of p → m ≡ len_span p → real_said (real_span_at (drop i (rows n s)) left) ≡ Real.At x m
+    pub real_found : left < len → (p : FugueSpan) → p ≡ part_span r left len → (x : Id) (m : ℕ) → x ≡ real_of p → m ≡ len_span p → real_said (real_span_at (drop i (rows n s)) left) ≡ Opt.Some (x, m)
     real_found k p ep x m ex em =
         let id : inc_id (real_of (row_at s (i * 72))) left ≡ x = sym (ex ∙ (ap real_of ep ∙ (real_part r left len ∙ ap (λ (q : FugueSpan). inc_id (real_of q) left) is))) in
         let lens : active_len (row_at s (i * 72)) - left ≡ m = sym (em ∙ (ap len_span ep ∙ (part_length r left len (real_slice k) ∙ ap (λ (q : ℕ). q - left) (e ∙ ap active_len is)))) in
-        ap real_said (real_turn h true (lt-ltb left (active_len (row_at s (i * 72))) (rw (sym (e ∙ ap active_len is)) k))) ∙ ap₂ Real.At id lens
+        ap real_said (real_turn h true (lt-ltb left (active_len (row_at s (i * 72))) (rw (sym (e ∙ ap active_len is)) k))) ∙ ap₂ (λ (y : Id) (q : ℕ). Opt.Some (y, q)) id lens
 
     pub real_next : len ≤ left → real_span_at (drop i (rows n s)) left ≡ real_span_at (drop (i + 1) (rows n s)) (left - len)
     real_next k =

@@ -10,6 +10,7 @@ use span::span::FugueSpan;
 use span::status::counter_of;
 
 // Which unit of a span has an id.
+#[tactic(auto, unfolding(crate::specs::Spans::offset_of, crate::specs::Spans::gap))]
 pub fn offset_of(row: FugueSpan, o: Option<Id>) -> Option<u32>
     ensures { result ≡ offset_of row o }
 {
@@ -27,6 +28,7 @@ pub fn offset_of(row: FugueSpan, o: Option<Id>) -> Option<u32>
 }
 
 // Whether one of a span's units has it.
+#[tactic(auto, unfolding(crate::specs::Spans::covered))]
 pub fn covers(row: FugueSpan, o: Option<Id>) -> bool
     ensures { result ≡ covered row o }
 {
@@ -34,6 +36,7 @@ pub fn covers(row: FugueSpan, o: Option<Id>) -> bool
 }
 
 // The row and the unit of it that have an id, of the n rows lent.
+#[tactic(auto, using(crate::proofs::Rights::row_drop, crate::proofs::Rights::row_none), unfolding(crate::specs::Spans::find_in))]
 pub fn find_elem(s: &[u8], n: usize, o: Option<Id>) -> Option<(usize, u32)>
     requires { n * 72 ≤ length s.now }
     ensures { result ≡ find_in (rows n s.now) o 0 }
@@ -47,6 +50,7 @@ pub fn find_elem(s: &[u8], n: usize, o: Option<Id>) -> Option<(usize, u32)>
 }
 
 // Whether an id is one of the list's.
+#[tactic(auto, using(crate::proofs::Finds::found_has))]
 pub fn has(s: &[u8], n: usize, o: Option<Id>) -> bool
     requires { (n * 72 ≤ length s.now) × AllOk (rows n s.now) }
     ensures { result ≡ mem_id o (expand (rows n s.now)) }
@@ -55,6 +59,7 @@ pub fn has(s: &[u8], n: usize, o: Option<Id>) -> bool
 }
 
 // Whether two spans have an id in common: one of them has the other's first.
+#[tactic(auto, unfolding(crate::specs::Spans::meets_span))]
 pub fn meets(a: FugueSpan, b: FugueSpan) -> bool
     ensures { result ≡ meets_span a b }
 {
@@ -62,6 +67,7 @@ pub fn meets(a: FugueSpan, b: FugueSpan) -> bool
 }
 
 // Whether one of the ids of x is in the list (refusal 3).
+#[tactic(auto, using(crate::proofs::Rights::row_drop, crate::proofs::Rights::row_none), unfolding(crate::specs::Spans::holds_any))]
 pub fn holds(s: &[u8], n: usize, x: FugueSpan) -> bool
     requires { n * 72 ≤ length s.now }
     ensures { result ≡ holds_any (rows n s.now) x }

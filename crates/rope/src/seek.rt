@@ -16,6 +16,7 @@ pub struct Cursor {
 }
 
 // The cursor of a visible position: right after the visible unit before it, at the start for 0.
+#[tactic(auto, using(crate::proofs::Rights::row_drop, crate::proofs::Rights::row_none), unfolding(crate::specs::Spans::seek_in))]
 pub fn seek(s: &[u8], n: usize, pos: u32) -> Cursor
     requires { n * 72 ≤ length s.now }
     ensures { result ≡ seek_in (rows n s.now) pos 0 }

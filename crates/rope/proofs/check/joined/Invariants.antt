@@ -1,12 +1,8 @@
 use Rattle.store.specs.Row.{rows}
 use lib.ListN.{drop}
-use Prim.Native.Nat.{◌-◌, ◌≤◌}
 use mathlib.Core.Path.{◌≡◌}
 use Rattle.units.specs.Store.{joined_rows}
 use Rattle.rope.proofs.check.joined.Given as goal
 
 abbrev pub invariant-loop-i : goal.invariant-loop-i
-invariant-loop-i l = (l.i ≤ l.n) × (joined_rows (rows l.n l.s) ≡ joined_rows (drop l.i (rows l.n l.s)))
-
-abbrev pub decreases-loop-i : goal.decreases-loop-i
-decreases-loop-i l = l.n - l.i
+invariant-loop-i l = joined_rows (rows l.n l.s) ≡ joined_rows (drop l.i (rows l.n l.s))
