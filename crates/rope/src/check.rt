@@ -13,6 +13,7 @@ use span::span::FugueSpan;
 use store::limits::UNITS;
 
 // Whether no id stands twice in the list (of refusal 15).
+#[tactic(auto, using(crate::proofs::Rights::row_drop, crate::proofs::Rights::row_none, crate::proofs::Rights::row_take, crate::proofs::Twice::rows_take), unfolding(crate::specs::Spans::apart_rows))]
 pub fn distinct(s: &[u8], n: usize) -> bool
     requires { n * 72 ≤ length s.now }
     ensures { result ≡ apart_rows [] (rows n s.now) }
@@ -26,6 +27,7 @@ pub fn distinct(s: &[u8], n: usize) -> bool
 }
 
 // Whether a span joins the row after row i.
+#[tactic(auto, using(crate::proofs::Rights::row_drop, crate::proofs::Rights::row_none), unfolding(units::specs::Store::touching))]
 pub fn touches(s: &[u8], n: usize, i: usize, row: FugueSpan) -> bool
     requires { (n * 72 ≤ length s.now) × (i < n) }
     ensures { result ≡ touching row (drop (i + 1) (rows n s.now)) }
@@ -34,6 +36,7 @@ pub fn touches(s: &[u8], n: usize, i: usize, row: FugueSpan) -> bool
 }
 
 // Whether each span is well formed and no two neighbours join (of refusal 15).
+#[tactic(auto, using(crate::proofs::Rights::row_drop, crate::proofs::Rights::row_none, crate::proofs::Checks::code_ok, crate::proofs::Checks::code_err), unfolding(units::specs::Store::joined_rows))]
 pub fn joined(s: &[u8], n: usize) -> bool
     requires { n * 72 ≤ length s.now }
     ensures { result ≡ joined_rows (rows n s.now) }
@@ -60,6 +63,7 @@ pub fn units(s: &[u8], n: usize) -> usize
 }
 
 // Whether an origin is none or names a unit of the list.
+#[tactic(auto, unfolding(units::specs::Store::named))]
 pub fn is_named(s: &[u8], n: usize, o: Option<Id>) -> bool
     requires { (n * 72 ≤ length s.now) × AllOk (rows n s.now) }
     ensures { result ≡ named o (expand (rows n s.now)) }
@@ -68,6 +72,7 @@ pub fn is_named(s: &[u8], n: usize, o: Option<Id>) -> bool
 }
 
 // Whether every origin is.
+#[tactic(auto, using(crate::proofs::Rights::row_drop, crate::proofs::Rights::row_none), unfolding(units::specs::Store::origins_named))]
 pub fn origins(s: &[u8], n: usize) -> bool
     requires { (n * 72 ≤ length s.now) × AllOk (rows n s.now) }
     ensures { result ≡ origins_named (rows n s.now) (expand (rows n s.now)) }

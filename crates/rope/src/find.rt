@@ -50,7 +50,6 @@ pub fn find_elem(s: &[u8], n: usize, o: Option<Id>) -> Option<(usize, u32)>
 }
 
 // Whether an id is one of the list's.
-#[tactic(auto, using(crate::proofs::Finds::found_has))]
 pub fn has(s: &[u8], n: usize, o: Option<Id>) -> bool
     requires { (n * 72 ≤ length s.now) × AllOk (rows n s.now) }
     ensures { result ≡ mem_id o (expand (rows n s.now)) }

@@ -23,6 +23,7 @@ pub fn visible_len(s: &[u8]) -> Result<usize, Refusal>
 }
 
 // The real id at a visible position of the rows and the units left in its span; none from the visible length on.
+#[tactic(auto, using(crate::proofs::Rights::row_drop, crate::proofs::Rights::row_none), unfolding(units::specs::Query::real_span_at))]
 pub fn real_at(s: &[u8], n: usize, pos: u32) -> Option<(Id, u32)>
     requires { Stored n s.now }
     ensures { result ≡ real_said (real_span_at (rows n s.now) pos) }

@@ -1,16 +1,17 @@
-use mathlib.Core.Path.{sym, ◌∙◌}
+use mathlib.Core.Bool.{true, false}
 use borrow.Author.Tests.{lt-ltb, le-ltb}
 use Rattle.units.specs.Place.{sibling}
+use Rattle.rope.proofs.Rights.{same_eq}
 use Rattle.rope.proofs.place.judge.Goals as goal
 
 pub returns-then-q-row : goal.returns-then-q-row
 unfolding sibling
-returns-then-q-row c = rw (sym c.same.ensures ∙ c.if-same.true, lt-ltb _ _ c.if-q-row.true)
+returns-then-q-row c = rw (same_eq _ _ _ true c.eq.ensures c.if-eq.true, lt-ltb _ _ c.if-q-row.true)
 
 pub returns-else-q-row : goal.returns-else-q-row
 unfolding sibling
-returns-else-q-row c = rw (sym c.same.ensures ∙ c.if-same.true, le-ltb _ _ c.if-q-row.false)
+returns-else-q-row c = rw (same_eq _ _ _ true c.eq.ensures c.if-eq.true, le-ltb _ _ c.if-q-row.false)
 
-pub returns-else-same : goal.returns-else-same
+pub returns : goal.returns
 unfolding sibling
-returns-else-same c = rw (sym c.same.ensures ∙ c.if-same.false, ← c.parent_pos-p.ensures) c.by_pos.ensures
+returns c = rw (same_eq _ _ _ false c.eq.ensures c.if-eq.false, ← c.parent_pos-p.ensures) c.by_pos.ensures

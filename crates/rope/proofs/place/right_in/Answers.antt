@@ -1,18 +1,20 @@
 use native.Mathlib.Omega.{arith}
 use mathlib.Core.Bool.{true, false}
-use mathlib.Core.Path.{sym, ◌∙◌}
+use mathlib.Core.Path.{sym, ap, ◌∙◌}
+use Rattle.span.specs.Maybe.{OptId}
+use Rattle.span.specs.Ids.{same_opt}
 use Rattle.rope.proofs.Offsets.{unit_off}
-use Rattle.rope.proofs.Rights.{right_by_lem, right_none}
+use Rattle.rope.proofs.Rights.{right_by_lem, right_none, same_eq}
 use Rattle.rope.proofs.place.right_in.Goals as goal
 
 pub left_at-requires : goal.left_at-requires
-left_at-requires c = let w = unit_off c.args.row c.requires c.args.o c.in-At.k (sym c.offset_of.ensures ∙ c.in-At.is) in (c.requires, omega (arith, w.0))
+left_at-requires c = let w = unit_off c.args.row c.requires c.args.o c.in-Some.k (sym c.in-Some.ensures) in (c.requires, omega (arith, w.0))
 
-pub returns-in-Nothing : goal.returns-in-Nothing
-returns-in-Nothing c = right_none c.args.row c.args.x c.args.o (sym c.offset_of.ensures ∙ c.in-Nothing.is)
+pub returns-in_default : goal.returns-in_default
+returns-in_default c = right_none c.args.row c.args.x c.args.o (sym c.in_default.ensures)
 
-pub returns-then-same : goal.returns-then-same
-returns-then-same c = right_by_lem c.args.row c.args.x c.args.o c.in-At.k true (sym c.offset_of.ensures ∙ c.in-At.is) (rw c.left_at.ensures at (sym c.same.ensures ∙ c.if-same.true))
+pub returns-then-eq : goal.returns-then-eq
+returns-then-eq c = right_by_lem c.args.row c.args.x c.args.o c.in-Some.k true (sym c.in-Some.ensures) (ap (λ (q : OptId). same_opt q c.args.x) (sym c.left_at.ensures) ∙ same_eq _ _ _ true c.eq.ensures c.if-eq.true)
 
-pub returns-else-same : goal.returns-else-same
-returns-else-same c = right_by_lem c.args.row c.args.x c.args.o c.in-At.k false (sym c.offset_of.ensures ∙ c.in-At.is) (rw c.left_at.ensures at (sym c.same.ensures ∙ c.if-same.false))
+pub returns-else-eq : goal.returns-else-eq
+returns-else-eq c = right_by_lem c.args.row c.args.x c.args.o c.in-Some.k false (sym c.in-Some.ensures) (ap (λ (q : OptId). same_opt q c.args.x) (sym c.left_at.ensures) ∙ same_eq _ _ _ false c.eq.ensures c.if-eq.false)
