@@ -112,6 +112,7 @@ fn ordered(s: &[u8], n: usize) -> bool
 }
 
 // Whether n rows are a well formed list. A short list is asked plainly.
+#[tactic(auto, using(crate::proofs::WellFormed::form_1, crate::proofs::WellFormed::form_2, crate::proofs::WellFormed::form_3, crate::proofs::WellFormed::rows_ok))]
 pub fn well_formed(s: &[u8], n: usize) -> bool
     requires { (n * 72 ≤ length s.now) × (n ≤ 65536) }
     ensures { result ≡ well_formed (rows n s.now) }

@@ -49,6 +49,7 @@ pub fn uncounted(diff: Option<Status>) -> Option<Status>
 }
 
 // A span without the count.
+#[tactic(auto, unfolding(crate::specs::Exact::bare, units::specs::Change::with_state))]
 pub fn bare(diff: bool, x: FugueSpan) -> FugueSpan
     ensures { result ≡ bare diff x }
 {
@@ -69,6 +70,7 @@ pub fn bare(diff: bool, x: FugueSpan) -> FugueSpan
 }
 
 // A changed piece without the count.
+#[tactic(auto, unfolding(crate::specs::Exact::bare, units::specs::Change::with_state, units::specs::Change::update_unit))]
 pub fn changed_bare(u: Update, piece: FugueSpan) -> FugueSpan
     ensures { result ≡ bare u.diff (update_unit u.set u.change u.diff piece) }
 {
@@ -87,6 +89,7 @@ pub fn changed_bare(u: Update, piece: FugueSpan) -> FugueSpan
 }
 
 // A piece that stays, in two.
+#[tactic(auto, unfolding(crate::specs::Exact::exact_of))]
 pub fn kept_piece(u: Update, piece: FugueSpan) -> Exact
     ensures { result ≡ exact_of u.diff piece }
 {

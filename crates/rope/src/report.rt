@@ -90,6 +90,7 @@ pub fn report_units(s: &[u8], n: usize, out: &mut [u8], d: Delete) -> usize
 }
 
 // How many pieces the delete removes.
+#[tactic(auto, using(crate::proofs::Reporting::back_length, crate::proofs::Reporting::pieces_single, crate::proofs::Reporting::pieces_forward))]
 pub fn removed_len(s: &[u8], n: usize, d: Delete, reversed: bool) -> usize
     requires { Report d n s.now }
     ensures { result ≡ length (pieces (rows n s.now) d.at d.len reversed) }
@@ -102,6 +103,7 @@ pub fn removed_len(s: &[u8], n: usize, d: Delete, reversed: bool) -> usize
 }
 
 // The pieces that the delete removes. The answer is their number.
+#[tactic(auto, using(crate::proofs::Reporting::back_length, crate::proofs::Reporting::pieces_back, crate::proofs::Reporting::pieces_single, crate::proofs::Reporting::pieces_forward))]
 pub fn report(s: &[u8], n: usize, out: &mut [u8], d: Delete, reversed: bool) -> usize
     requires { Report d n s.now × (length (pieces (rows n s.now) d.at d.len reversed) * 72 ≤ length out.old) }
     ensures { Listed (pieces (rows n s.now) d.at d.len reversed) result out.old out.new }

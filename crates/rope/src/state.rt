@@ -41,6 +41,7 @@ pub fn open(s: &mut [u8]) -> Result<(), Refusal>
 }
 
 // The placeholder: n unknown units of the unknown peer, in every version.
+#[tactic(auto, unfolding(units::specs::Query::placeholder, span::specs::Span::new_span, span::specs::Span::real_new))]
 fn placeholder(n: u32) -> FugueSpan
     ensures { result ≡ placeholder n }
 {
@@ -63,6 +64,7 @@ fn placeholder(n: u32) -> FugueSpan
 }
 
 // Opens a store with a placeholder of n units.
+#[tactic(auto, using(crate::proofs::States::with_none, crate::proofs::States::with_many, crate::proofs::States::with_full, crate::proofs::States::with_done, crate::proofs::States::room_head))]
 pub fn open_with(s: &mut [u8], n: u32) -> Result<(), Refusal>
     ensures { (code_of result ≡ open_with_code n s.old) × (s.new ≡ open_with_bytes n s.old) }
 {

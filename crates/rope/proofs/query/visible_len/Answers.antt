@@ -5,13 +5,14 @@ use Rattle.span.specs.declared.span.FugueSpan.{FugueSpan}
 use Rattle.span.specs.Units.{expand}
 use Rattle.units.specs.Place.{shown}
 use Rattle.rope.specs.Entries.{len_answer}
+use Rattle.span.specs.Refusal.{refused, refusal_of}
 use Rattle.rope.proofs.States.{state_of, part_spans, answer_none, answer_state}
 use mathlib.Core.Bool.{not}
 use Rattle.rope.proofs.query.visible_len.Goals as goal
 
 pub returns-then-not-check : goal.returns-then-not-check
-unfolding len_answer
-returns-then-not-check c = answer_none c.args.s.now _ _ _ (sym c.check.ensures ∙ not-true _ (ap not c.if-not-check.true))
+unfolding len_answer refusal_of
+returns-then-not-check c = answer_none c.args.s.now _ refused _ (sym c.check.ensures ∙ not-true _ (ap not c.if-not-check.true))
 
 pub count-n-requires : goal.count-n-requires
 count-n-requires c = (state_of c.args.s.now (sym c.check.ensures ∙ not-false _ (ap not c.if-not-check.false))).head
