@@ -11,27 +11,24 @@ pub fn count(s: &[u8]) -> u64
     requires { 72 ≤ length s.now }
     ensures { result ≡ count s.now }
 {
-    words::get_u64(s, 0)
+    u64::from_le_bytes(words::bytes_at(s, 0))
 }
 
 // The rows of room after the header.
+#[tactic(auto, unfolding(crate::specs::Header::room))]
 pub fn room(s: &[u8]) -> usize
     ensures { result ≡ room s.now }
 {
-    let n = s.len();
-    if n < 72 {
-        return 0;
-    }
-    let fit = (n - 72) / 72;
-    if fit < ROWS { fit } else { ROWS }
+    (s.len().saturating_sub(72) / 72).min(ROWS)
 }
 
 // Another number of rows; the rest of the header stays.
+#[tactic(auto, using(words::proofs::Bytes::writes))]
 pub fn set_count(s: &mut [u8], n: u64)
     requires { 72 ≤ length s.old }
     ensures { s.new ≡ put 0 (bytes_of 8 n) s.old }
 {
-    words::put_u64(s, 0, n)
+    words::put(s, 0, n.to_le_bytes())
 }
 
 fn header_words(n: u64) -> Words
@@ -55,6 +52,7 @@ fn header_words(n: u64) -> Words
 }
 
 // A whole header, for a store that is opened.
+#[tactic(auto, unfolding(crate::specs::Header::header_bytes))]
 pub fn put_header(s: &mut [u8], n: u64)
     requires { 72 ≤ length s.old }
     ensures { s.new ≡ put 0 (header_bytes n) s.old }

@@ -14,160 +14,84 @@ use span::chunk::RichtextChunk;
 use span::ids::Id;
 use span::span::FugueSpan;
 use span::status::Status;
+use words::bytes_at;
 
-// Signed numbers by their bits, two's complement: LLVM makes each a move.
+// An id by its peer and its counter's bits, two's complement.
 pub fn id_of(peer: u64, w: u32) -> Id
     ensures { result ≡ id_of peer w }
 {
-    if w < 2147483648 {
-        Id {
-            peer: peer,
-            counter: w as i32,
-        }
-    } else {
-        Id {
-            peer: peer,
-            counter: -1 - ((4294967295 - w) as i32),
-        }
+    Id {
+        peer,
+        counter: w.cast_signed(),
     }
 }
 
+// A counter's bits.
 pub fn counter_bits(i: Id) -> u32
     ensures { (result ≡ bits32 i.counter) × SFits w32 i.counter }
 {
-    let x = i.counter;
-    if x < 0 {
-        4294967295 - ((-1 - x) as u32)
-    } else {
-        x as u32
-    }
+    i.counter.cast_unsigned()
 }
 
+// A status by its delete times' bits.
 pub fn status_of(future: bool, w: u16) -> Status
     ensures { result ≡ status_of future w }
 {
-    if w < 32768 {
-        Status {
-            future: future,
-            delete_times: w as i16,
-        }
-    } else {
-        Status {
-            future: future,
-            delete_times: -1 - ((65535 - w) as i16),
-        }
+    Status {
+        future,
+        delete_times: w.cast_signed(),
     }
 }
 
+// The bits of a status' delete times.
 pub fn times_bits(s: Status) -> u16
     ensures { (result ≡ bits16 s.delete_times) × SFits w16 s.delete_times }
 {
-    let x = s.delete_times;
-    if x < 0 {
-        65535 - ((-1 - x) as u16)
-    } else {
-        x as u16
-    }
+    s.delete_times.cast_unsigned()
 }
 
-// What may be missing, from its words and back.
+// What may be missing, from its words and back. What is missing has zeros in its words; a flag tells that it is missing.
 pub fn opt_of(has: bool, peer: u64, w: u32) -> Option<Id>
     ensures { result ≡ opt_of has peer w }
 {
-    if has {
-        Some(id_of(peer, w))
-    } else {
-        None
-    }
+    has.then_some(id_of(peer, w))
 }
 
 pub fn maybe_of(has: bool, future: bool, w: u16) -> Option<Status>
     ensures { result ≡ maybe_of has future w }
 {
-    if has {
-        Some(status_of(future, w))
-    } else {
-        None
-    }
+    has.then_some(status_of(future, w))
 }
 
 pub fn peer_of(o: Option<Id>) -> u64
     ensures { result ≡ peer_of o }
 {
-    match o {
-        None => 0,
-        Some(i) => i.peer,
-    }
+    o.map_or(0, |id| id.peer)
 }
 
 pub fn opt_bits(o: Option<Id>) -> u32
     ensures { (result ≡ bits32 (ctr_of o)) × SFits w32 (ctr_of o) }
 {
-    match o {
-        None => 0,
-        Some(i) => counter_bits(i),
-    }
-}
-
-pub fn has_of(o: Option<Id>) -> bool
-    ensures { result ≡ has_of o }
-{
-    match o {
-        None => false,
-        Some(_) => true,
-    }
-}
-
-pub fn has_status(d: Option<Status>) -> bool
-    ensures { result ≡ has_status d }
-{
-    match d {
-        None => false,
-        Some(_) => true,
-    }
-}
-
-pub fn future_of(d: Option<Status>) -> bool
-    ensures { result ≡ future_of d }
-{
-    match d {
-        None => false,
-        Some(t) => t.future,
-    }
+    o.map_or(0, |id| counter_bits(id))
 }
 
 pub fn diff_bits(d: Option<Status>) -> u16
     ensures { (result ≡ bits16 (times_of d)) × SFits w16 (times_of d) }
 {
-    match d {
-        None => 0,
-        Some(t) => times_bits(t),
-    }
+    d.map_or(0, |status| times_bits(status))
 }
 
+// A flag as the lowest bit of a word, and back.
 pub fn bit(b: bool) -> u32
     ensures { (result ≡ bit_of b) × (result < 2) }
 {
-    if b { 1 } else { 0 }
+    u32::from(b)
 }
 
 pub fn low(w: u32) -> bool
     ensures { result ≡ low_of w }
 {
     w % 2 == 1
-}
-
-// The word of flags: the lowest bit is the first.
-pub fn flags(a: bool, b: bool, c: bool, d: bool, e: bool, f: bool) -> u32
-    ensures { result ≡ flags_of a b c d e f }
-{
-    bit(a) + 2 * (bit(b) + 2 * (bit(c) + 2 * (bit(d) + 2 * (bit(e) + 2 * bit(f)))))
-}
-
-pub fn wide16(x: u16) -> u32
-    ensures { (result ≡ x) × (result < 65536) }
-{
-    x as u32
 }
 
 // The words of a row: what stands in the bytes, before it means anything. The last four bytes of a row are spare.
@@ -194,19 +118,19 @@ pub fn get_words(s: &[u8], b: usize) -> Words
     ensures { result ≡ words_at s.now b }
 {
     Words {
-        p0: words::get_u64(s, b),
-        p1: words::get_u64(s, b + 8),
-        p2: words::get_u64(s, b + 16),
-        p3: words::get_u64(s, b + 24),
-        c0: words::get_u32(s, b + 32),
-        c1: words::get_u32(s, b + 36),
-        c2: words::get_u32(s, b + 40),
-        c3: words::get_u32(s, b + 44),
-        c4: words::get_u32(s, b + 48),
-        c5: words::get_u32(s, b + 52),
-        c6: words::get_u32(s, b + 56),
-        c7: words::get_u32(s, b + 60),
-        c8: words::get_u32(s, b + 64),
+        p0: u64::from_le_bytes(bytes_at(s, b)),
+        p1: u64::from_le_bytes(bytes_at(s, b + 8)),
+        p2: u64::from_le_bytes(bytes_at(s, b + 16)),
+        p3: u64::from_le_bytes(bytes_at(s, b + 24)),
+        c0: u32::from_le_bytes(bytes_at(s, b + 32)),
+        c1: u32::from_le_bytes(bytes_at(s, b + 36)),
+        c2: u32::from_le_bytes(bytes_at(s, b + 40)),
+        c3: u32::from_le_bytes(bytes_at(s, b + 44)),
+        c4: u32::from_le_bytes(bytes_at(s, b + 48)),
+        c5: u32::from_le_bytes(bytes_at(s, b + 52)),
+        c6: u32::from_le_bytes(bytes_at(s, b + 56)),
+        c7: u32::from_le_bytes(bytes_at(s, b + 60)),
+        c8: u32::from_le_bytes(bytes_at(s, b + 64)),
     }
 }
 
@@ -214,30 +138,52 @@ pub fn put_words(s: &mut [u8], b: usize, w: Words)
     requires { b + 72 ≤ length s.old }
     ensures { s.new ≡ put b (word_bytes w) s.old }
 {
-    words::put4_u64(s, b, w.p0, w.p1, w.p2, w.p3);
-    words::put4_u32(s, b + 32, w.c0, w.c1, w.c2, w.c3);
-    words::put4_u32(s, b + 48, w.c4, w.c5, w.c6, w.c7);
-    words::put_u32(s, b + 64, w.c8);
-    words::put_u32(s, b + 68, 0);
+    words::put_all(
+        s,
+        b,
+        [
+            w.p0.to_le_bytes(),
+            w.p1.to_le_bytes(),
+            w.p2.to_le_bytes(),
+            w.p3.to_le_bytes(),
+        ],
+    );
+    words::put_all(
+        s,
+        b + 32,
+        [
+            w.c0.to_le_bytes(),
+            w.c1.to_le_bytes(),
+            w.c2.to_le_bytes(),
+            w.c3.to_le_bytes(),
+            w.c4.to_le_bytes(),
+            w.c5.to_le_bytes(),
+            w.c6.to_le_bytes(),
+            w.c7.to_le_bytes(),
+            w.c8.to_le_bytes(),
+            [0; 4],
+        ],
+    );
 }
 
+#[tactic(auto, unfolding(crate::specs::Row::span_of))]
 pub fn span_of(w: Words) -> FugueSpan
     ensures { result ≡ span_of w }
 {
-    let f0 = w.c8;
-    let f1 = f0 / 2;
-    let f2 = f1 / 2;
-    let f3 = f2 / 2;
-    let f4 = f3 / 2;
-    let f5 = f4 / 2;
+    let future = w.c8;
+    let has_diff = future / 2;
+    let diff_future = has_diff / 2;
+    let has_real = diff_future / 2;
+    let has_left = has_real / 2;
+    let has_right = has_left / 2;
     FugueSpan {
         id: id_of(w.p0, w.c0),
         lamport: w.c1,
-        real_id: opt_of(low(f3), w.p1, w.c2),
-        status: status_of(low(f0), (w.c7 % 65536) as u16),
-        diff_status: maybe_of(low(f1), low(f2), (w.c7 / 65536) as u16),
-        origin_left: opt_of(low(f4), w.p2, w.c3),
-        origin_right: opt_of(low(f5), w.p3, w.c4),
+        real_id: opt_of(low(has_real), w.p1, w.c2),
+        status: status_of(low(future), (w.c7 % 65536) as u16),
+        diff_status: maybe_of(low(has_diff), low(diff_future), (w.c7 / 65536) as u16),
+        origin_left: opt_of(low(has_left), w.p2, w.c3),
+        origin_right: opt_of(low(has_right), w.p3, w.c4),
         content: RichtextChunk {
             start: w.c5,
             end: w.c6,
@@ -245,46 +191,36 @@ pub fn span_of(w: Words) -> FugueSpan
     }
 }
 
+// The word of flags: the lowest bit is the first.
+#[tactic(auto, unfolding(crate::specs::Row::flags_of))]
 pub fn span_flags(x: FugueSpan) -> u32
     ensures { result ≡ flags_of x.status.future (has_status x.diff_status) (future_of x.diff_status) (has_of x.real_id) (has_of x.origin_left) (has_of x.origin_right) }
 {
-    let status = x.status;
-    let diff = x.diff_status;
-    let real = x.real_id;
-    let left = x.origin_left;
-    let right = x.origin_right;
-    flags(
-        status.future,
-        has_status(diff),
-        future_of(diff),
-        has_of(real),
-        has_of(left),
-        has_of(right),
-    )
+    u32::from(x.status.future)
+        + 2 * u32::from(x.diff_status.is_some())
+        + 4 * u32::from(x.diff_status.is_some_and(|status| status.future))
+        + 8 * u32::from(x.real_id.is_some())
+        + 16 * u32::from(x.origin_left.is_some())
+        + 32 * u32::from(x.origin_right.is_some())
 }
 
+#[tactic(auto, unfolding(crate::specs::Row::words_of))]
 pub fn words_of(x: FugueSpan) -> Words
     ensures { (result ≡ words_of x) × Signed x }
 {
-    let id = x.id;
-    let status = x.status;
-    let diff = x.diff_status;
-    let real = x.real_id;
-    let left = x.origin_left;
-    let right = x.origin_right;
     Words {
-        p0: id.peer,
-        p1: peer_of(real),
-        p2: peer_of(left),
-        p3: peer_of(right),
-        c0: counter_bits(id),
+        p0: x.id.peer,
+        p1: peer_of(x.real_id),
+        p2: peer_of(x.origin_left),
+        p3: peer_of(x.origin_right),
+        c0: counter_bits(x.id),
         c1: x.lamport,
-        c2: opt_bits(real),
-        c3: opt_bits(left),
-        c4: opt_bits(right),
+        c2: opt_bits(x.real_id),
+        c3: opt_bits(x.origin_left),
+        c4: opt_bits(x.origin_right),
         c5: x.content.start,
         c6: x.content.end,
-        c7: wide16(times_bits(status)) + 65536 * wide16(diff_bits(diff)),
+        c7: u32::from(times_bits(x.status)) + 65536 * u32::from(diff_bits(x.diff_status)),
         c8: span_flags(x),
     }
 }
@@ -310,7 +246,7 @@ pub fn insert_row(s: &mut [u8], n: usize, i: usize, x: FugueSpan)
     requires { (n * 72 + 72 ≤ length s.old) × (i ≤ n) }
     ensures { rows (n + 1) s.new ≡ take i (rows n s.old) ++ x ∷ drop i (rows n s.old) }
 {
-    words::shift::up(s, i * 72, n * 72 - i * 72, 72);
+    s.copy_within(i * 72..n * 72, i * 72 + 72);
     put_row(s, i, x)
 }
 
@@ -319,6 +255,5 @@ pub fn remove_rows(s: &mut [u8], n: usize, i: usize, k: usize)
     requires { (n * 72 ≤ length s.old) × (i + k ≤ n) }
     ensures { rows (n - k) s.new ≡ take i (rows n s.old) ++ drop (i + k) (rows n s.old) }
 {
-    let end = i + k;
-    words::shift::down(s, i * 72, n * 72 - end * 72, k * 72)
+    s.copy_within((i + k) * 72..n * 72, i * 72);
 }

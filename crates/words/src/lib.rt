@@ -10,7 +10,7 @@
 pub mod shift;
 pub mod signed;
 
-ghost use Rattle.std.specs.Prelude.{◌≡◌, ◌+◌, ◌≤◌, ◌<◌, ◌++◌, length, take, drop};
+ghost use Rattle.std.specs.Prelude.{◌≡◌, ◌+◌, ◌*◌, ◌≤◌, ◌<◌, ◌++◌, flat_map, length, take, drop};
 ghost use Rattle.words.specs.Le.{le, bytes_of, put};
 
 // The N bytes from `at` on.
@@ -31,6 +31,16 @@ pub fn put<const N: usize>(s: &mut [u8], at: usize, bytes: [u8; N])
     ensures { s.new ≡ put at bytes.entry s.old }
 {
     s[at..at + N].copy_from_slice(&bytes);
+}
+
+// Writes runs of N bytes, one after the other: one call in the place of many, for functions that write a whole row.
+#[tactic(auto, unfolding(crate::specs::Le::put))]
+pub fn put_all<const N: usize, const M: usize>(s: &mut [u8], at: usize, runs: [[u8; N]; M])
+    requires { at + M * N ≤ length s.old }
+    ensures { s.new ≡ put at (flat_map (λ run. run) runs.entry) s.old }
+{
+    let bytes = runs.as_flattened();
+    s[at..at + bytes.len()].copy_from_slice(bytes);
 }
 
 // A byte as a wider number.
