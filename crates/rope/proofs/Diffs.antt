@@ -199,7 +199,7 @@ insert_by s d e = sym (ap (λ (x : DiffStatus). real_if_created x s.real_id) e)
 
 pub step_by_lem : (gap i : ℕ) (e : Entry) (t : Bool) → eqb gap 0 ≡ t → cond t (step e (i + 1) 0) (step (Retain gap) i 0) ≡ step_by gap i e
 unfolding step_by
-step_by_lem gap i e t p = sym (ap (λ (b : Bool). cond b (Next e (i + 1) 0) (Next (Retain gap) i 0)) p)
+step_by_lem gap i e t p = sym (ap (λ (b : Bool). cond b (step e (i + 1) 0) (step (Retain gap) i 0)) p)
 
 -- ---- all that comes in has a real id
 

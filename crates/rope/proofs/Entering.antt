@@ -166,7 +166,7 @@ span_number : (x : FugueSpan) → (span_code x ≡ 0 → ⊥) → number_of (ref
 unfolding span_code refusal_of
 span_number x n = go (formed x.content) (ids_ok x (len_span x)) n
   where
-    go : (a b : Bool) → (cond a (cond b 0 2) 1 ≡ 0 → ⊥) → number_of (refusal_of (cond a (cond b 0 2) 1)) ≡ cond a (cond b 0 2) 1
+    go : (a b : Bool) → (◌≡◌ {A = ℕ} (cond a (cond b 0 2) 1) 0 → ⊥) → ◌≡◌ {A = ℕ} (number_of (refusal_of (cond a (cond b 0 2) 1))) (cond a (cond b 0 2) 1)
     go false b m = refl
     go true false m = refl
     go true true m = absurd (m refl)

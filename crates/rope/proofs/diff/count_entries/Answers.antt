@@ -12,4 +12,4 @@ pub loop-next-preserved : goal.loop-next-preserved
 loop-next-preserved c = going_next _ _ c.loop-next.i c.loop-next.gap c.loop-next.k c.loop-next.invariant _ _ _ c.in-Some.ensures
 
 pub returns : goal.returns
-returns c = going_end _ _ c.loop-next.i c.loop-next.gap c.loop-next.k c.loop-next.invariant c.in-None.ensures
+returns c = going_end _ _ c.loop-next.i c.loop-next.gap c.loop-next.k c.loop-next.invariant c.in_default.ensures

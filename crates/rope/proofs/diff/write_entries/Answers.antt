@@ -6,7 +6,7 @@ pub loop-next-init : goal.loop-next-init
 loop-next-init c = (going_start _ _ c.requires.0, start_all _ _ _ _ _ _ _ c.requires.1)
 
 pub returns : goal.returns
-returns c = fill_end _ _ _ _ _ _ _ _ _ _ _ _ _ _ _ c.loop-next.invariant.1 c.in-None.ensures
+returns c = fill_end _ _ _ _ _ _ _ _ _ _ _ _ _ _ _ c.loop-next.invariant.1 c.in_default.ensures
 
 pub loop-next-preserved : goal.loop-next-preserved
 loop-next-preserved c = (
