@@ -70,7 +70,7 @@ pub fn bare(diff: bool, x: FugueSpan) -> FugueSpan
 }
 
 // A changed piece without the count.
-#[tactic(auto, unfolding(crate::specs::Exact::bare, units::specs::Change::with_state, units::specs::Change::update_unit))]
+#[tactic(auto, unfolding(crate::specs::Exact::bare, units::specs::Change::with_state, units::specs::Change::update_unit, units::specs::Change::change_status))]
 pub fn changed_bare(u: Update, piece: FugueSpan) -> FugueSpan
     ensures { result ≡ bare u.diff (update_unit u.set u.change u.diff piece) }
 {

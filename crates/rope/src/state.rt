@@ -64,7 +64,6 @@ fn placeholder(n: u32) -> FugueSpan
 }
 
 // Opens a store with a placeholder of n units.
-#[tactic(auto, using(crate::proofs::States::with_none, crate::proofs::States::with_many, crate::proofs::States::with_full, crate::proofs::States::with_done, crate::proofs::States::room_head))]
 pub fn open_with(s: &mut [u8], n: u32) -> Result<(), Refusal>
     ensures { (code_of result ≡ open_with_code n s.old) × (s.new ≡ open_with_bytes n s.old) }
 {

@@ -4,7 +4,6 @@ ghost use Rattle.rope.specs.Streams.{Pushable, Pushed};
 use span::span::FugueSpan;
 
 // The span y goes after the first w rows: it joins the last of them, or is a row of its own. The answer is the number of these rows.
-#[tactic(auto, using(crate::proofs::Streaming::pushed_merge, crate::proofs::Streaming::pushed_own, crate::proofs::Streaming::pushed_first))]
 pub fn push(s: &mut [u8], w: usize, y: FugueSpan) -> usize
     requires { Pushable w y s.old }
     ensures { Pushed w y result s.old s.new }
