@@ -60,6 +60,10 @@ module _ (x : Head) (took many tp cb ki la fo lo tb : ℕ)
       (next s _ _ at _ h (next s _ _ at _ h (next s _ _ at _ h (next s _ _ at _ h e1 e2 refl) e3 refl) e4 refl) e5 refl)
 
 -- the words of what an edit does say it
+pub bits_of : (a : Does) → bits32 (target_counter a) ≡ target_bits a
+bits_of (Do.Insert lamport c) = refl
+bits_of (Do.Delete n reversed start) = refl
+
 kind_fits : (a : Does) → kind_of a < 2 ^ 32
 kind_fits (Do.Insert lamport c) = omega arith
 kind_fits (Do.Delete n true start) = omega arith

@@ -1,7 +1,7 @@
 -- what the edits held say, read edit by edit
 use Prim.Native.Nat.{ℕ, suc, ◌+◌, ◌-◌, ◌*◌, ◌<◌, ◌≤◌}
 use mathlib.Core.Path.{◌≡◌, refl, sym, ap, ap₂, ◌∙◌}
-use mathlib.Core.Bool.{Bool, true, false, not, ◌&&◌, ◌||◌, cond}
+use mathlib.Core.Bool.{Bool, true, false, not, ◌&&◌, ◌||◌, cond, true≢false}
 use mathlib.Core.List.{List, []}
 use native.Mathlib.Omega.{arith}
 use native.Mathlib.Nat.{zero-add}
@@ -11,10 +11,15 @@ use lib.Signed.{lt_z, le_z}
 use lib.ListN.{length, take, drop, length-drop}
 use lib.Seq.{take_all}
 use borrow.Author.Tests.{le-leb, lt-leb, eq-eqb, ne_eqb, ltb-true, ltb-false, leb-true, leb-false, eqb-true, eqb-false}
+use Rattle.std.specs.Prelude.{Result, Ok, Err}
+use Rattle.std.specs.Result.{is_err}
+use Rattle.span.specs.declared.refusal.Refusal.{Refusal}
 use Rattle.span.specs.declared.ids.Id.{Id}
 use Rattle.std.specs.Prelude.{Some as At}
 use Rattle.span.specs.Maybe.{Counter}
 use Rattle.std.specs.Prelude.{Some, None}
+use Rattle.span.specs.Refusal.{code_of}
+use Rattle.span.proofs.RefusalLaws.{number_not_zero}
 use Rattle.span.specs.Ids.{room_opt}
 use Rattle.span.specs.Status.{eq_z, counter_of}
 use Rattle.store.specs.Limits.{PEERS}
@@ -237,6 +242,15 @@ pub fit_more : (e t : List ℕ) (i : ℕ) → edits_fit [] (held i e t) ≡ true
 fit_more e t i p q = ap (edits_fit []) (held_one i e t) ∙ fit_snoc [] (held i e t) (held_at i e t) p q
 
 -- ---------------------------------------------------------------- the numbers of refusals
+
+-- an outcome's number, by whether it is refused
+pub code_of-err : (r : Result (Unit {0}) Refusal) → is_err r ≡ true → code_of r ≡ 0 → ⊥
+code_of-err (Ok x) h = absurd (true≢false (sym h))
+code_of-err (Err e) h = number_not_zero e
+
+pub code_of-ok : (r : Result (Unit {0}) Refusal) → is_err r ≡ false → code_of r ≡ 0
+code_of-ok (Ok x) h = refl
+code_of-ok (Err e) h = absurd (true≢false h)
 
 pub named_by : (l : List Held) (v : Version) (r c : Bool) → rising v ≡ r → every (is_held l) v ≡ c → r && c ≡ named l v
 unfolding named

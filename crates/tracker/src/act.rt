@@ -44,6 +44,7 @@ pub fn act_ids(act: Does) -> bool
 }
 
 // 1 and 2: what an edit alone says.
+#[tactic(auto, unfolding(crate::specs::Refused::act_code))]
 pub fn act_code(id: Id, act: Does) -> Result<(), Refusal>
     ensures { code_of result ≡ act_code id (to_act act) }
 {

@@ -38,7 +38,10 @@ pub fn check(s: &[u8], t: &[u8], e: &[u8]) -> bool
         return false;
     }
     let h = count as usize;
-    if target_room(t) < used_len(&e[64..], h) || !rope::state::check(s) {
+    if target_room(t) < used_len(&e[64..], h) {
+        return false;
+    }
+    if !rope::state::check(s) {
         return false;
     }
     let n = header::count(s);

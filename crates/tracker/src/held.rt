@@ -140,6 +140,7 @@ fn peer_fits(e: &[u8], h: usize, peer: u64) -> bool
 
 // ---------------------------------------------------------------- versions
 
+#[tactic(auto, unfolding(history::specs::Version::is_held))]
 fn pair_held(e: &[u8], h: usize, k: Pair, fit: bool) -> bool
     requires { (h * 256 ≤ length e.now) × (h ≤ EDITS) × (fit ≡ true → (t : List ℕ) → edits_fit [] (held h e.now t) ≡ true) }
     ensures { (t : List ℕ) → result ≡ is_held (held h e.now t) (to_count k) }
@@ -160,6 +161,7 @@ fn pairs_held(e: &[u8], h: usize, v: &[u8], m: usize, fit: bool) -> bool
 }
 
 // 6: a version of peers that rise and counts that are held. It is quicker if the edits are known to fit.
+#[tactic(auto, unfolding(history::specs::Version::named))]
 fn named_by(e: &[u8], h: usize, v: &[u8], m: usize, fit: bool) -> bool
     requires { (h * 256 ≤ length e.now) × (h ≤ EDITS) × (m * 12 ≤ length v.now) × (fit ≡ true → (t : List ℕ) → edits_fit [] (held h e.now t) ≡ true) }
     ensures { (t : List ℕ) → result ≡ named (held h e.now t) (pairs m v.now) }
@@ -195,6 +197,7 @@ fn covers_context(row: &[u8], v: &[u8], m: usize) -> bool
 }
 
 // Whether the edit in a row, where a version covers it even in part, has its context covered, and is covered whole if it is a delete.
+#[tactic(auto, unfolding(history::specs::Version::closed_for))]
 fn closed_row(row: &[u8], v: &[u8], m: usize) -> bool
     requires { (256 ≤ length row.now) × (m * 12 ≤ length v.now) }
     ensures { result ≡ closed_for (pairs m v.now) (edit_in row.now) }
@@ -251,6 +254,7 @@ fn named_closed(e: &[u8], h: usize, v: &[u8], m: usize, fit: bool) -> bool
 }
 
 // 6 or 7: whether a version can be shown.
+#[tactic(auto, unfolding(history::specs::Version::version_code))]
 pub fn version_code(e: &[u8], h: usize, v: &[u8], m: usize) -> Result<(), Refusal>
     requires { (h * 256 ≤ length e.now) × (h ≤ EDITS) × (m * 12 ≤ length v.now) }
     ensures { (t : List ℕ) → code_of result ≡ version_code (held h e.now t) (pairs m v.now) }
@@ -267,6 +271,7 @@ pub fn version_code(e: &[u8], h: usize, v: &[u8], m: usize) -> Result<(), Refusa
 // ---------------------------------------------------------------- an edit
 
 // 6 and 7 of an edit whose context is v: it holds exactly the peer's own earlier counters.
+#[tactic(auto, using(crate::proofs::HeldLaws::eq_z_sym), unfolding(crate::specs::Refused::context_code))]
 fn pairs_code(e: &[u8], h: usize, v: &[u8], m: usize, id: Id, fit: bool) -> Result<(), Refusal>
     requires { (h * 256 ≤ length e.now) × (h ≤ EDITS) × (m * 12 ≤ length v.now) × (fit ≡ true → (t : List ℕ) → edits_fit [] (held h e.now t) ≡ true) }
     ensures { (t : List ℕ) → code_of result ≡ context_code (held h e.now t) (pairs m v.now) id }

@@ -1,12 +1,10 @@
 // The rows of a log, its header, and one edit more. Offsets are in specs/Rows. The entries know the rooms, so each function asks that its bytes are there.
 ghost use Rattle.std.specs.Prelude.{◌≡◌, ◌+◌, ◌*◌, ◌/◌, ◌≤◌, ◌<◌, length, take, drop, if◌then◌else◌};
-ghost use Rattle.std.specs.Int.{w32};
-ghost use Rattle.std.proofs.Common.{SFits};
 ghost use Rattle.words.specs.Le.{bytes_of, put};
 ghost use Rattle.span.specs.Chunk.{chunk};
 ghost use Rattle.store.specs.Row.{low_of};
 ghost use Rattle.history.specs.Edit.{Insert, Delete};
-ghost use Rattle.tracker.specs.Rows.{to_count, to_range, to_edit, pair_in, pair_bytes, range_in, range_bytes, target_room, context_in, edit_in, took_in, pairs_in, head_bytes, edit_count, placeholder_in, kind_of, lamport_of, first_of, last_of, target_peer, target_bits, to_act};
+ghost use Rattle.tracker.specs.Rows.{to_count, to_range, to_edit, pair_in, pair_bytes, range_in, range_bytes, target_room, context_in, edit_in, took_in, pairs_in, head_bytes, edit_count, placeholder_in, kind_of, lamport_of, first_of, last_of, target_peer, to_act};
 ghost use Rattle.tracker.specs.Writes.{header_bytes, target_counter, HeadFits, Appended};
 
 use span::chunk::RichtextChunk;
@@ -85,6 +83,7 @@ pub fn put_target(t: &mut [u8], i: usize, x: Target)
 }
 
 // How many target ranges fit.
+#[tactic(auto, unfolding(crate::specs::Rows::target_room))]
 pub fn target_room(t: &[u8]) -> usize
     ensures { result ≡ target_room t.now }
 {
@@ -128,6 +127,7 @@ pub fn get_head(e: &[u8]) -> Head
 }
 
 // How many target ranges the row says.
+#[tactic(auto, unfolding(crate::specs::Rows::took_in))]
 pub fn get_took(e: &[u8]) -> u32
     requires { 64 ≤ length e.now }
     ensures { result ≡ took_in e.now }
@@ -136,6 +136,7 @@ pub fn get_took(e: &[u8]) -> u32
 }
 
 // How many pairs the row says.
+#[tactic(auto, unfolding(crate::specs::Rows::pairs_in))]
 pub fn get_pairs(e: &[u8]) -> u32
     requires { 64 ≤ length e.now }
     ensures { result ≡ pairs_in e.now }
@@ -144,57 +145,41 @@ pub fn get_pairs(e: &[u8]) -> u32
 }
 
 // The words of what an edit does: what it does not have is 0.
-fn kind_of(act: Does) -> u32
-    ensures { result ≡ kind_of act }
-{
-    match act {
-        Does::Insert(_, _) => 0,
-        Does::Delete(_, reversed, _) => 1 + 2 * store::bit(reversed),
-    }
+#[derive(Clone, Copy)]
+struct Words {
+    kind: u32,
+    lamport: u32,
+    first: u32,
+    last: u32,
+    target: Id,
 }
 
-fn lamport_of(act: Does) -> u32
-    ensures { result ≡ lamport_of act }
+fn words_of(act: Does) -> Words
+    ensures kind { result.kind ≡ kind_of act }
+    ensures lamport { result.lamport ≡ lamport_of act }
+    ensures first { result.first ≡ first_of act }
+    ensures last { result.last ≡ last_of act }
+    ensures peer { result.target.peer ≡ target_peer act }
+    ensures counter { result.target.counter ≡ target_counter act }
 {
     match act {
-        Does::Insert(lamport, _) => lamport,
-        Does::Delete(_, _, _) => 0,
-    }
-}
-
-fn first_of(act: Does) -> u32
-    ensures { result ≡ first_of act }
-{
-    match act {
-        Does::Insert(_, c) => c.start,
-        Does::Delete(n, _, _) => n,
-    }
-}
-
-fn last_of(act: Does) -> u32
-    ensures { result ≡ last_of act }
-{
-    match act {
-        Does::Insert(_, c) => c.end,
-        Does::Delete(_, _, _) => 0,
-    }
-}
-
-fn target_peer(act: Does) -> u64
-    ensures { result ≡ target_peer act }
-{
-    match act {
-        Does::Insert(_, _) => 0,
-        Does::Delete(_, _, start) => start.peer,
-    }
-}
-
-fn target_bits(act: Does) -> u32
-    ensures { (result ≡ target_bits act) × SFits w32 (target_counter act) }
-{
-    match act {
-        Does::Insert(_, _) => 0,
-        Does::Delete(_, _, start) => store::counter_bits(start),
+        Does::Insert(lamport, content) => Words {
+            kind: 0,
+            lamport,
+            first: content.start,
+            last: content.end,
+            target: Id {
+                peer: 0,
+                counter: 0,
+            },
+        },
+        Does::Delete(len, reversed, start) => Words {
+            kind: 1 + 2 * store::bit(reversed),
+            lamport: 0,
+            first: len,
+            last: 0,
+            target: start,
+        },
     }
 }
 
@@ -204,30 +189,30 @@ pub fn put_head(e: &mut [u8], i: usize, x: Head, took: u32, many: u32)
     ensures { (e.new ≡ put (i * 256) (head_bytes x took many) e.old) × HeadFits x took many }
 {
     let at = i * 256;
-    let act = x.act;
-    let id = x.id;
-    words::put_u64(e, at, id.peer);
-    words::put_u64(e, at + 8, target_peer(act));
+    let w = words_of(x.act);
+    words::put_u64(e, at, x.id.peer);
+    words::put_u64(e, at + 8, w.target.peer);
     words::put4_u32(
         e,
         at + 16,
-        store::counter_bits(id),
+        store::counter_bits(x.id),
         x.at,
-        kind_of(act),
-        lamport_of(act),
+        w.kind,
+        w.lamport,
     );
     words::put4_u32(
         e,
         at + 32,
-        first_of(act),
-        last_of(act),
-        target_bits(act),
+        w.first,
+        w.last,
+        store::counter_bits(w.target),
         took,
     );
     words::put4_u32(e, at + 48, many, 0, 0, 0);
 }
 
 // The header of the edits: how many there are, and the units of the placeholder.
+#[tactic(auto, unfolding(crate::specs::Rows::edit_count))]
 pub fn edit_count(e: &[u8]) -> u64
     requires { 64 ≤ length e.now }
     ensures { result ≡ edit_count e.now }
@@ -235,6 +220,7 @@ pub fn edit_count(e: &[u8]) -> u64
     words::get_u64(e, 0)
 }
 
+#[tactic(auto, unfolding(crate::specs::Rows::placeholder_in))]
 pub fn placeholder(e: &[u8]) -> u64
     requires { 64 ≤ length e.now }
     ensures { result ≡ placeholder_in e.now }
@@ -260,6 +246,7 @@ pub fn put_header(e: &mut [u8], count: u64, placeholder: u64)
 }
 
 // n bytes of x from `from` on, from `at` on.
+#[tactic(auto, unfolding(words::specs::Le::put))]
 fn copy_bytes(e: &mut [u8], at: usize, x: &[u8], from: usize, n: usize)
     requires { (at + n ≤ length e.old) × (from + n ≤ length x.now) }
     ensures { e.new ≡ put at (take n (drop from x.now)) e.old }

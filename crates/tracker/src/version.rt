@@ -37,6 +37,7 @@ fn counter_below(id: Id, count: u32) -> bool
 }
 
 // Whether an id's counter is below its peer's count.
+#[tactic(auto, unfolding(history::specs::Version::below))]
 pub fn below(v: &[u8], m: usize, id: Id) -> bool
     requires { m * 12 ≤ length v.now }
     ensures { result ≡ below (pairs m v.now) id }
@@ -45,6 +46,7 @@ pub fn below(v: &[u8], m: usize, id: Id) -> bool
 }
 
 // Whether a unit is in a version; the placeholder's are in every one.
+#[tactic(auto, unfolding(history::specs::Version::in_version))]
 pub fn in_version(v: &[u8], m: usize, id: Id) -> bool
     requires { m * 12 ≤ length v.now }
     ensures { result ≡ in_version (pairs m v.now) id }

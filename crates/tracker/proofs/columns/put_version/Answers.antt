@@ -2,15 +2,15 @@ use Prim.Native.Nat.{◌-◌, ◌≤◌}
 use native.Mathlib.Omega.{arith}
 use lib.ListN.{length}
 use Rattle.tracker.proofs.Zips.{columned_none, columned_more, columned_all, many_broken, uneven_broken}
+use Rattle.tracker.proofs.columns.put_version.Goals.{then-m-gt-PEERS-via-then-m-gt-PEERS, then-m-gt-PEERS-via-else-m-gt-PEERS+then-counts-m}
 use Rattle.tracker.proofs.columns.put_version.Goals as goal
 
 pub returns-then-m-gt-PEERS : goal.returns-then-m-gt-PEERS
 returns-then-m-gt-PEERS c =
-    (many_broken c.args.v.now c.args.peers.now c.args.counts.now c.if-m-gt-PEERS.true, omega arith)
-
-pub returns-then-counts-m : goal.returns-then-counts-m
-returns-then-counts-m c =
-    (uneven_broken c.args.v.now c.args.peers.now c.args.counts.now c.if-counts-m.true, omega arith)
+    let a = c.args in
+    elim c.then-m-gt-PEERS.branch [
+      then-m-gt-PEERS-via-then-m-gt-PEERS w ↦ (many_broken a.v.now a.peers.now a.counts.now w.if-m-gt-PEERS.true, omega arith)
+    | then-m-gt-PEERS-via-else-m-gt-PEERS+then-counts-m w ↦ (uneven_broken a.v.now a.peers.now a.counts.now w.if-counts-m.true, omega arith) ]
 
 pub loop-i-init : goal.loop-i-init
 loop-i-init c = columned_none _ _ _

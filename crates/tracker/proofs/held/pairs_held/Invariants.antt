@@ -4,11 +4,8 @@ use Rattle.units.specs.Lists.{every}
 use lib.ListN.{drop}
 use mathlib.Core.Path.{◌≡◌}
 use mathlib.Core.List.{List}
-use Prim.Native.Nat.{ℕ, ◌-◌, ◌≤◌}
+use Prim.Native.Nat.{ℕ}
 use Rattle.tracker.proofs.held.pairs_held.Given as goal
 
 abbrev pub invariant-loop-i : goal.invariant-loop-i
-invariant-loop-i l = (l.i ≤ l.m) × ((t : List ℕ) → every (is_held (held l.h l.e t)) (pairs l.m l.v) ≡ every (is_held (held l.h l.e t)) (drop l.i (pairs l.m l.v)))
-
-abbrev pub decreases-loop-i : goal.decreases-loop-i
-decreases-loop-i l = l.m - l.i
+invariant-loop-i l = (t : List ℕ) → every (is_held (held l.h l.e t)) (pairs l.m l.v) ≡ every (is_held (held l.h l.e t)) (drop l.i (pairs l.m l.v))

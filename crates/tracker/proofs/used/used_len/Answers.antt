@@ -7,9 +7,9 @@ use Rattle.tracker.proofs.used.used_len.Goals as goal
 
 pub loop-i-init : goal.loop-i-init
 unfolding used
-loop-i-init c = (omega arith, omega arith, refl)
+loop-i-init c = (omega arith, refl)
 
 pub loop-i-preserved : goal.loop-i-preserved
 loop-i-preserved c =
     let l = c.loop-i in
-    (omega arith, omega (arith, c.took_at.type_inv), ap₂ ◌+◌ l.invariant.2 c.took_at.ensures ∙ sym (used_one l.i c.args.e.now))
+    (omega (arith, c.took_at.type_inv), ap₂ ◌+◌ l.invariant.1 c.took_at.ensures ∙ sym (used_one l.i c.args.e.now))
