@@ -1,5 +1,5 @@
 -- What each rope call answers: 0 or the number of 01's refusal, from the whole input, and the list afterwards. 15 goes first and 13 last, else the lowest. Assumes nothing.
-use Rattle.std.specs.Prelude.{ℕ, zero, suc, ◌+◌, Bool, true, false, not, ◌&&◌, ◌||◌, List, [], ◌∷◌, ℤ, pos, ◌+ℤ◌, ◌-ℤ◌, length, if◌then◌else◌, nat_le, ◌==◌}
+use Rattle.std.specs.Prelude.{ℕ, zero, suc, ◌+◌, Bool, false, not, ◌&&◌, ◌||◌, List, [], ◌∷◌, ℤ, pos, ◌+ℤ◌, ◌-ℤ◌, length, if◌then◌else◌, nat_le, ◌==◌}
 use Rattle.std.specs.Int.Signed.{le_z}
 use Rattle.span.specs.declared.ids.Id.{Id}
 use Rattle.std.specs.Prelude.{Some as At}

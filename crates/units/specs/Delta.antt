@@ -1,7 +1,5 @@
 -- The delta from status to diff_status, as 01 states it (000 `get_diff`), on spans or on units. Assumes nothing.
 use Rattle.std.specs.Prelude.{ℕ, ◌+◌, Bool, true, false, ◌&&◌, List, [], ◌∷◌, if◌then◌else◌, ◌==◌}
-use Rattle.span.specs.declared.chunk.RichtextChunk.{RichtextChunk}
-use Rattle.span.specs.declared.ids.Id.{Id}
 use Rattle.span.specs.Maybe.{OptId}
 use Rattle.std.specs.Prelude as OptI
 use Rattle.span.specs.declared.span.FugueSpan.{FugueSpan}

@@ -1,3 +1,4 @@
+pub mod Maybe
 pub mod Limits
 pub mod Lists
 pub mod Place

@@ -1,5 +1,5 @@
 -- Tests over lists, and a list written over another. Assumes nothing.
-use Rattle.std.specs.Prelude.{ℕ, Bool, true, false, ◌&&◌, ◌||◌, List, [], ◌∷◌, ◌++◌, length, drop, if◌then◌else◌}
+use Rattle.std.specs.Prelude.{Bool, true, false, ◌&&◌, ◌||◌, List, [], ◌∷◌, ◌++◌, length, drop, if◌then◌else◌}
 
 -- a test holds of every entry, of some entry
 unfoldable pub every : {A : Type 0} → (A → Bool) → List A → Bool

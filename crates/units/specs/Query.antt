@@ -1,5 +1,5 @@
 -- What a list shows, and the lists that a store starts with. Assumes nothing.
-use Rattle.std.specs.Prelude.{ℕ, ◌-◌, Bool, List, [], ◌∷◌, pos, if◌then◌else◌, nat_lt}
+use Rattle.std.specs.Prelude.{ℕ, ◌-◌, List, [], ◌∷◌, pos, if◌then◌else◌, nat_lt}
 use Rattle.span.specs.declared.ids.Id.{Id}
 use Rattle.span.specs.declared.span.FugueSpan.{FugueSpan}
 use Rattle.span.specs.Chunk.{UNKNOWN, chunk}
