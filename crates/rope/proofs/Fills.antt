@@ -1,21 +1,25 @@
 -- columns that are filled entry by entry
 use Prim.Native.Nat.{ℕ, zero, suc, ◌+◌, ◌<◌, ◌≤◌, min}
 use mathlib.Core.Path.{◌≡◌, refl, sym, ap, ap₂, ◌∙◌}
-use mathlib.Core.Bool.{Bool, true, false, cond}
+use mathlib.Core.Bool.{Bool, true, false, cond, true≢false}
 use mathlib.Core.List.{List, [], ◌∷◌, ◌++◌}
 use native.Mathlib.Omega.{arith}
 use native.Mathlib.Nat.{zero-add, add-zero}
 use lib.ListN.{length, take, drop, set, length-set}
 use lib.Dec.{leb, eqb}
 use lib.Seq.{set_split}
-use borrow.Author.Tests.{le-leb, lt-leb, eq-eqb, ne_eqb}
+use borrow.Author.Tests.{le-leb, lt-leb, leb-true, eq-eqb, ne_eqb, eqb-true}
 use Rattle.words.specs.Le.{put}
 use Rattle.words.proofs.Puts.{put-put, put-nil}
 use Rattle.span.proofs.AnswerLaws.{is_done, is_refused}
 use Rattle.store.specs.Row.{rows}
 use Rattle.rope.specs.declared.diff.EntryNumbers.{EntryNumbers}
 use Rattle.rope.specs.Maybe.{DiffAnswer}
-use Rattle.std.specs.Prelude.{Ok}
+use Rattle.std.specs.Prelude.{Result, Ok, Err}
+use Rattle.std.specs.Result.{IsErrAnd}
+use Rattle.std.proofs.lemmas.Result.{err_from_is_err_and}
+use Rattle.span.specs.declared.refusal.Refusal.{Refusal}
+use Rattle.span.specs.Answer.{answer}
 use Rattle.span.specs.Refusal.{refused}
 use Rattle.units.specs.Lists.{every, over}
 use Rattle.units.specs.Store.{count, spans_of, is_state}
@@ -133,6 +137,31 @@ module _ (es rest : List Entry) (i : ℕ) (k0 a0 b0 p0 c0 l0 k a b p c l : List 
           lamport = col_next (λ (y : EntryNumbers). y.lamport) es rest i l0 l v.lamport e left at x q l2 w.lamport;
         }
 
+-- ---- what an answer says of its code
+
+abbrev is_ok : {A : Type 0} → Result A Refusal → Bool
+is_ok (Ok x) = true
+is_ok (Err e) = false
+
+abbrev value_or : {A : Type 0} → A → Result A Refusal → A
+value_or d (Ok x) = x
+value_or d (Err e) = d
+
+module _ {A : Type 0} (code : ℕ) (y : A) where
+  by_code : (t : Bool) → eqb code 0 ≡ t → answer Ok refused code y ≡ cond t (Ok y) (refused code)
+  unfolding answer
+  by_code t q = ap (λ (b : Bool). cond b (Ok y) (refused code)) q
+
+  pub answer_not_ok : (d : Refusal) → Err d ≡ answer Ok refused code y → code ≡ 0 → ⊥
+  answer_not_ok d e z = true≢false (ap is_ok (sym (e ∙ by_code true (eq-eqb code 0 z))))
+
+  pub answer_value : (x : A) → Ok x ≡ answer Ok refused code y → (code ≡ 0) × (x ≡ y)
+  answer_value x e = go (eqb code 0) refl
+    where
+      go : (t : Bool) → eqb code 0 ≡ t → (code ≡ 0) × (x ≡ y)
+      go true q = (eqb-true code 0 q, ap (value_or x) (e ∙ by_code true q))
+      go false q = absurd (true≢false (ap is_ok (e ∙ by_code false q)))
+
 -- ---- get_diff
 
 pub hold_least : (n : ℕ) (k a b p c l : List ℕ) → n ≤ least (length k) (length a) (length b) (length p) (length c) (length l) → Hold n k a b p c l
@@ -153,6 +182,14 @@ module _ (room : ℕ) (spans : List FugueSpan) where
   pub rows_code_done : every insertable spans ≡ true → length (entries spans) ≤ room → diff_rows_code room spans ≡ 0
   rows_code_done e h = rows_code true true e (le-leb (length (entries spans)) room h)
 
+  pub rows_code_fits : diff_rows_code room spans ≡ 0 → length (entries spans) ≤ room
+  rows_code_fits e = go (every insertable spans) (leb (length (entries spans)) room) refl refl
+    where
+      go : (t u : Bool) → every insertable spans ≡ t → leb (length (entries spans)) room ≡ u → length (entries spans) ≤ room
+      go true true p q = leb-true (length (entries spans)) room q
+      go true false p q = let z : ◌≡◌ {A = ℕ} 13 0 = sym (rows_code true false p q) ∙ e in absurd (omega (arith, z))
+      go false u p q = let z : ◌≡◌ {A = ℕ} 12 0 = sym (rows_code false u p q) ∙ e in absurd (omega (arith, z))
+
 module _ (code : ℕ) (spans : List FugueSpan) (k a b p c l : List ℕ) where
   as_was : (n : ℕ) → code ≡ n → (n ≡ 0 → ⊥) → (x y : List ℕ) → x ≡ kept code y x
   as_was n e z x y = sym (ap (λ (t : Bool). cond t y x) (ne_eqb code 0 (λ q. z (sym e ∙ q))))
@@ -167,6 +204,20 @@ module _ (code : ℕ) (spans : List FugueSpan) (k a b p c l : List ℕ) where
         peer = as_was n e z p _;
         counter = as_was n e z c _;
         lamport = as_was n e z l _;
+      }
+
+  pub diffed_exit : (r : DiffAnswer) (d : Refusal) → IsErrAnd r (λ (x : Refusal). x ≡ d) → Err d ≡ answer Ok refused code (length (entries spans)) → Diffed code spans r k a b p c l k a b p c l
+  diffed_exit r d x e =
+      let w = err_from_is_err_and r x in
+      let z : code ≡ 0 → ⊥ = answer_not_ok code (length (entries spans)) d e in
+      record {
+        said = w.1 ∙ (ap Err w.2 ∙ e);
+        kind = as_was code refl z k _;
+        first = as_was code refl z a _;
+        second = as_was code refl z b _;
+        peer = as_was code refl z p _;
+        counter = as_was code refl z c _;
+        lamport = as_was code refl z l _;
       }
 
   as_new : code ≡ 0 → (x y z : List ℕ) → x ≡ y → x ≡ kept code y z

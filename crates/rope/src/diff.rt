@@ -1,5 +1,7 @@
 // get_diff: the delta from each span's status to its diff_status, one entry after the other, and all of them in lent columns of numbers.
-ghost use Rattle.std.specs.Prelude.{◌≡◌, ◌+◌, ◌<◌, length};
+ghost use Rattle.std.specs.Prelude.{◌≡◌, ◌+◌, ◌<◌, length, Ok};
+ghost use Rattle.span.specs.Answer.{answer};
+ghost use Rattle.span.specs.Refusal.{refused};
 ghost use Rattle.store.specs.Row.{rows};
 ghost use Rattle.units.specs.Lists.{every};
 ghost use Rattle.units.specs.Store.{spans_of};
@@ -248,6 +250,21 @@ pub fn shortest(
     kind.min(a.min(b.min(peer.min(counter.min(lamport)))))
 }
 
+// How many entries the delta has, where nothing refuses it: what comes in has a real id, and the entries fit a room of so many.
+pub fn diff_len(s: &[u8], n: usize, room: usize) -> Result<usize, Refusal>
+    requires { Stored n s.now }
+    ensures { result ≡ answer Ok refused (diff_rows_code room (rows n s.now)) (length (entries (rows n s.now))) }
+{
+    if !all_real(s, n) {
+        return Err(Refusal::NoRealId);
+    }
+    let many = count_entries(s, n);
+    if room < many {
+        return Err(Refusal::Output);
+    }
+    Ok(many)
+}
+
 // get_diff of the rows.
 pub fn diff_rows(
     s: &[u8],
@@ -262,10 +279,6 @@ pub fn diff_rows(
     requires { Stored n s.now }
     ensures { Diffed (diff_rows_code (least (length kind.old) (length a.old) (length b.old) (length peer.old) (length counter.old) (length lamport.old)) (rows n s.now)) (rows n s.now) result kind.old a.old b.old peer.old counter.old lamport.old kind.new a.new b.new peer.new counter.new lamport.new }
 {
-    if !all_real(s, n) {
-        return Err(Refusal::NoRealId);
-    }
-    let many = count_entries(s, n);
     let room = shortest(
         kind.len(),
         a.len(),
@@ -274,9 +287,7 @@ pub fn diff_rows(
         counter.len(),
         lamport.len(),
     );
-    if room < many {
-        return Err(Refusal::Output);
-    }
+    let many = diff_len(s, n, room)?;
     write_entries(s, n, kind, a, b, peer, counter, lamport);
     Ok(many)
 }
