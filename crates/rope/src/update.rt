@@ -147,7 +147,9 @@ pub fn update(
     if to <= from {
         return Ok(());
     }
-    let from = counter_of(from).ok_or(Refusal::Version)?;
+    let Some(from) = counter_of(from) else {
+        return Err(Refusal::Version);
+    };
     let u = Update {
         peer,
         from,
