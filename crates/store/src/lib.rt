@@ -3,6 +3,7 @@
 
 pub mod header;
 pub mod limits;
+pub mod list;
 
 ghost use Rattle.std.specs.Prelude.{◌≡◌, ◌+◌, ◌-◌, ◌*◌, ◌≤◌, ◌<◌, ◌++◌, ◌∷◌, length, take, drop};
 ghost use Rattle.std.specs.Int.{w16, w32};
