@@ -86,7 +86,7 @@ pub fn plan_insert(s: &[u8], n: usize, units: usize, at: u32, x: FugueSpan) -> P
     if at == 0 {
         plan_scan(s, n, units, 0, None, x)
     } else {
-        let c = seek(s, n, at);
+        let c = seek(store::list::rows(s, n), at);
         plan_after(s, n, units, at, c, x)
     }
 }

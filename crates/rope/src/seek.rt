@@ -3,10 +3,12 @@ ghost use Rattle.std.specs.Prelude.{◌≡◌, ◌*◌, ◌≤◌, ◌<◌, leng
 ghost use Rattle.span.specs.Span.{active_len};
 ghost use Rattle.span.specs.Units.{expand};
 ghost use Rattle.store.specs.Row.{rows};
+ghost use Rattle.store.specs.Listed.{spans};
 ghost use Rattle.units.specs.Place.{shown};
 ghost use Rattle.rope.specs.Spans.{Stored, seek_in};
 
 use span::span::FugueSpan;
+use store::list::{Row, span_of};
 
 // A place in the list: after so many units of a row.
 #[derive(Clone, Copy)]
@@ -16,14 +18,13 @@ pub struct Cursor {
 }
 
 // The cursor of a visible position: right after the visible unit before it, at the start for 0.
-#[tactic(auto, using(crate::proofs::Rights::row_drop, crate::proofs::Rights::row_none), unfolding(crate::specs::Spans::seek_in))]
-pub fn seek(s: &[u8], n: usize, pos: u32) -> Cursor
-    requires { n * 72 ≤ length s.now }
-    ensures { result ≡ seek_in (rows n s.now) pos 0 }
+#[tactic(auto, unfolding(crate::specs::Spans::seek_in))]
+pub fn seek(rows: &[Row], pos: u32) -> Cursor
+    ensures { result ≡ seek_in (spans rows.now) pos 0 }
 {
     let mut left = pos;
-    for i in 0..n {
-        let len = store::get_row(s, i).activated_len();
+    for (i, row) in rows.iter().enumerate() {
+        let len = span_of(row).activated_len();
         if left <= len {
             return Cursor {
                 row: i,
@@ -32,7 +33,10 @@ pub fn seek(s: &[u8], n: usize, pos: u32) -> Cursor
         }
         left -= len;
     }
-    Cursor { row: n, offset: 0 }
+    Cursor {
+        row: rows.len(),
+        offset: 0,
+    }
 }
 
 // The visible length. A well formed list has few enough units to count.
