@@ -101,8 +101,7 @@ fn ordered(s: &[u8], n: usize) -> bool
     ensures { result ≡ (apart_rows [] (rows n s.now) && origins_named (rows n s.now) (expand (rows n s.now))) }
 {
     let mut idx = [0u16; 65536];
-    let mut place = [0u16; 65536];
-    if order(s, n, &mut idx, &mut place) {
+    if order(s, n, &mut idx) {
         origins_sorted(s, n, &idx)
     } else if twice(s, n, &idx) {
         false
