@@ -18,8 +18,9 @@ returns-then-n-eq0 c = let a = c.args in
 pub returns-then-n-gt-UNITS : goal.returns-then-n-gt-UNITS
 returns-then-n-gt-UNITS c = let a = c.args in
     elim c.then-n-gt-UNITS.branch [
-      then-n-gt-UNITS-via-then-n-gt-UNITS w ↦ (let v = with_many a.s.now a.n w.if-n-gt-UNITS.true in (sym v.0, sym v.1))
-    | then-n-gt-UNITS-via-else-n-gt-UNITS+then-room-eq0 w ↦ (let v = with_full a.s.now a.n c.if-n-eq0.false w.if-n-gt-UNITS.false (sym w.room.ensures ∙ w.if-room-eq0.true) in (sym v.0, sym v.1)) ]
+      | then-n-gt-UNITS-via-then-n-gt-UNITS w ↦ (let v = with_many a.s.now a.n w.if-n-gt-UNITS.true in (sym v.0, sym v.1))
+      | then-n-gt-UNITS-via-else-n-gt-UNITS+then-room-eq0 w ↦ (let v = with_full a.s.now a.n c.if-n-eq0.false w.if-n-gt-UNITS.false (sym w.room.ensures ∙ w.if-room-eq0.true) in (sym v.0, sym v.1))
+    ]
 
 pub put_header-requires : goal.put_header-requires
 put_header-requires c = let s = c.args.s.now in

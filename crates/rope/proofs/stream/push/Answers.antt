@@ -13,5 +13,6 @@ pub returns : goal.returns
 returns c =
     let a = c.args in
     elim c.if-w-gt0.branch [
-      then-w-gt0+else-can_merge w ↦ pushed_own a.w a.y a.s.now _ c.requires w.get_row-left.result w.if-w-gt0.true w.get_row-left.ensures (sym w.can_merge.ensures ∙ w.if-can_merge.false) c.put_row-2.ensures
-    | else-w-gt0 w ↦ pushed_first a.w a.y a.s.now _ c.requires (omega (arith, w.if-w-gt0.false)) c.put_row-2.ensures ]
+      | then-w-gt0+else-can_merge w ↦ pushed_own a.w a.y a.s.now _ c.requires w.get_row-left.result w.if-w-gt0.true w.get_row-left.ensures (sym w.can_merge.ensures ∙ w.if-can_merge.false) c.put_row-2.ensures
+      | else-w-gt0 w ↦ pushed_first a.w a.y a.s.now _ c.requires (omega (arith, w.if-w-gt0.false)) c.put_row-2.ensures
+    ]
