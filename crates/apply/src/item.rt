@@ -10,6 +10,7 @@ ghost use Rattle.apply.specs.Items.{item_in, item_bytes, items_bytes, items_in};
 use span::chunk::RichtextChunk;
 use span::ids::Id;
 use span::span::FugueSpan;
+use words::bytes_at;
 
 // A unit as its real id (own id if none) and its chunk.
 #[derive(Clone, Copy, Debug, PartialEq, Eq)]
@@ -19,17 +20,19 @@ pub struct Item {
 }
 
 // The item in row i. Loops over the rows that fit call it.
-#[tactic(auto, unfolding(crate::specs::Items::item_in))]
 pub fn get_item(s: &[u8], i: usize) -> Item
     requires { i * 24 + 24 ≤ length s.now }
     ensures { result ≡ item_in s.now i }
 {
     let at = i * 24;
     Item {
-        id: store::id_of(words::get_u64(s, at), words::get_u32(s, at + 8)),
+        id: store::id_of(
+            u64::from_le_bytes(bytes_at(s, at)),
+            u32::from_le_bytes(bytes_at(s, at + 8)),
+        ),
         content: RichtextChunk {
-            start: words::get_u32(s, at + 12),
-            end: words::get_u32(s, at + 16),
+            start: u32::from_le_bytes(bytes_at(s, at + 12)),
+            end: u32::from_le_bytes(bytes_at(s, at + 16)),
         },
     }
 }
@@ -40,9 +43,17 @@ pub fn put_item(s: &mut [u8], i: usize, x: Item)
     ensures { s.new ≡ put (i * 24) (item_bytes x) s.old }
 {
     let at = i * 24;
-    let bits = store::counter_bits(x.id);
-    words::put_u64(s, at, x.id.peer);
-    words::put4_u32(s, at + 8, bits, x.content.start, x.content.end, 0);
+    words::put(s, at, x.id.peer.to_le_bytes());
+    words::put_all(
+        s,
+        at + 8,
+        [
+            store::counter_bits(x.id).to_le_bytes(),
+            x.content.start.to_le_bytes(),
+            x.content.end.to_le_bytes(),
+            [0; 4],
+        ],
+    );
 }
 
 // A unit as an item.

@@ -164,7 +164,7 @@ pub fn change(w: &[u8]) -> ChangeField
     ensures { result ≡ change_word w.now }
 {
     match to_u16(signed(w, 32767)) {
-        Number16::Is(bits) => ChangeField::Is(words::signed::int16(bits)),
+        Number16::Is(bits) => ChangeField::Is(bits.cast_signed()),
         Number16::Nothing => ChangeField::Bad,
     }
 }

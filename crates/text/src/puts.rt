@@ -37,7 +37,7 @@ pub fn put_decimal(out: &mut [u8], at: usize, n: u64) -> usize
 fn size(n: i32) -> u64
     ensures { result ≡ nat_abs n }
 {
-    let bits = wide(words::signed::bits32(n));
+    let bits = wide(n.cast_unsigned());
     if bits < 2147483648 {
         bits
     } else {

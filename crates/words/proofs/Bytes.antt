@@ -4,7 +4,7 @@ use Rattle.std.proofs.Math.Nat.{div-div-eq-div-mul}
 use Rattle.std.proofs.Math.Facts.{to_z-of_z}
 use Rattle.std.specs.Int.{w16, w32, w64, from_le_bytes, to_le_bytes, cast_signed, cast_unsigned}
 use Rattle.std.specs.Prelude.{FitsSigned}
-use Rattle.words.specs.Le.{le, bytes_of}
+use Rattle.words.specs.Le.{le, bytes_of, put}
 
 -- ---- reading: l is what stands from an offset on
 
@@ -62,6 +62,13 @@ bytes_4 n = simp div-div-eq-div-mul
 pub bytes_8 : (n : ℕ) → to_le_bytes w64 n ≡ bytes_of 8 n
 unfolding bytes_of
 bytes_8 n = simp div-div-eq-div-mul
+
+-- as the code writes: the bytes, and then the buffer
+pub write_4 : (n at : ℕ) (bs s t : List ℕ) → bs ≡ to_le_bytes w32 n → t ≡ put at bs s → t ≡ put at (bytes_of 4 n) s
+write_4 n at bs s t b e = e ∙ ap (λ (l : List ℕ). put at l s) (b ∙ bytes_4 n)
+
+pub write_8 : (n at : ℕ) (bs s t : List ℕ) → bs ≡ to_le_bytes w64 n → t ≡ put at bs s → t ≡ put at (bytes_of 8 n) s
+write_8 n at bs s t b e = e ∙ ap (λ (l : List ℕ). put at l s) (b ∙ bytes_8 n)
 
 pub ruleset reads = (read_2, read_4, read_8, read_signed)
 

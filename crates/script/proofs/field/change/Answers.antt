@@ -8,7 +8,7 @@ use Rattle.script.proofs.field.change.Goals as goal
 
 pub returns-in-Is : goal.returns-in-Is
 unfolding change_word
-returns-in-Is c = rw (to_z-of_z {w = w16} {z = c.int16.result} (record { sfits = c.int16.type_inv })) (ap Change.Is c.int16.ensures ∙ ap change_by (sym (sym (c.to_u16.ensures ∙ ap fit16 c.signed.ensures) ∙ c.in-Is.is)))
+returns-in-Is c = rw (to_z-of_z {w = w16} {z = c.cast_signed.result} (record { sfits = c.cast_signed.type_inv })) (ap Change.Is c.cast_signed.ensures ∙ ap change_by (sym (sym (c.to_u16.ensures ∙ ap fit16 c.signed.ensures) ∙ c.in-Is.is)))
 
 pub returns-in-Nothing : goal.returns-in-Nothing
 unfolding change_word
