@@ -6,15 +6,20 @@ use mathlib.Core.List.{List}
 use native.Mathlib.Omega.{arith}
 use lib.Dec.{leb, eqb}
 use lib.ListN.{length}
-use borrow.Author.Tests.{leb-true, eqb-true, eqb-false, ne_eqb}
+use borrow.Author.Tests.{leb-true, eqb-true, eqb-false, eq-eqb, ne_eqb}
 use Rattle.words.specs.Le.{put}
 use Rattle.span.specs.Answer.{lower}
 use Rattle.span.specs.Units.{tab}
 use Rattle.span.proofs.AnswerLaws.{lower_zero, is_done, is_refused}
 use Rattle.rope.specs.Columns.{least}
 use Rattle.apply.specs.declared.item.Item.{Item}
-use Rattle.std.specs.Prelude.{Ok as Done}
-use Rattle.span.specs.Refusal.{refused as Refused}
+use Rattle.std.specs.Prelude.{Err, Ok as Done}
+use Rattle.std.specs.Result.{IsErrAnd}
+use Rattle.std.proofs.lemmas.Result.{err_from_is_err_and}
+use Rattle.span.specs.declared.refusal.Refusal.{Refusal}
+use Rattle.span.specs.Refusal.{number_of, refused as Refused}
+use Rattle.span.proofs.RefusalLaws.{number_not_zero, answer_err}
+use Rattle.apply.specs.Maybe.{ApplyAnswer}
 use Rattle.apply.specs.Apply.{Given, used, applied, apply_code}
 use Rattle.apply.specs.Items.{item_in, items_in, items_bytes}
 use Rattle.apply.specs.Given.{given_at, givens, given_code, item_code, lowest, new_len}
@@ -86,6 +91,26 @@ allowed_of s es old q =
       holds = omega (arith, v.holds, length_in s);
     }
 
+-- the same of old units and an output in rows, as the code asks
+module _ (o s : List ℕ) (es : List Given) where
+  rows_by : (k : ℕ) → k ≡ lower (lowest given_code es) (lowest item_code (tab (item_in s) 0 (length s / 24))) → k ≡ low_of (items_in o) es (items_in s)
+  rows_by k e = e ∙ ap (lower (lowest given_code es)) (items_all s)
+
+  pub rows_low : (k : ℕ) → k ≡ lower (lowest given_code es) (lowest item_code (tab (item_in s) 0 (length s / 24))) → (k ≡ 0 → ⊥) → k ≡ apply_code (items_in o) es (items_in s)
+  rows_low k e n = code_low (items_in o) es (items_in s) k (rows_by k e) n
+
+  rows_none : 0 ≡ lower (lowest given_code es) (lowest item_code (tab (item_in s) 0 (length s / 24))) → eqb (low_of (items_in o) es (items_in s)) 0 ≡ true
+  rows_none e = eq-eqb (low_of (items_in o) es (items_in s)) 0 (sym (rows_by 0 e))
+
+  pub rows_few : 0 ≡ lower (lowest given_code es) (lowest item_code (tab (item_in s) 0 (length s / 24))) → leb (used es) (length s / 24) ≡ false → 14 ≡ apply_code (items_in o) es (items_in s)
+  rows_few e f = code_few (items_in o) es (items_in s) (rows_none e) (have_used es s false f)
+
+  pub rows_full : 0 ≡ lower (lowest given_code es) (lowest item_code (tab (item_in s) 0 (length s / 24))) → leb (used es) (length s / 24) ≡ true → leb (new_len es (length s / 24)) (length o / 24) ≡ false → 13 ≡ apply_code (items_in o) es (items_in s)
+  rows_full e f g = code_full (items_in o) es (items_in s) (rows_none e) (have_used es s true f) (have_new es s o false g)
+
+  pub rows_done : 0 ≡ lower (lowest given_code es) (lowest item_code (tab (item_in s) 0 (length s / 24))) → leb (used es) (length s / 24) ≡ true → leb (new_len es (length s / 24)) (length o / 24) ≡ true → 0 ≡ apply_code (items_in o) es (items_in s)
+  rows_done e f g = code_done (items_in o) es (items_in s) (rows_none e) (have_used es s true f) (have_new es s o true g)
+
 -- ---- answers
 
 pub called_done : (code n : ℕ) (new : List Item) (out t : List ℕ) → code ≡ 0 → n ≡ length new → t ≡ put 0 (items_bytes new) out → Called code new out (Done n) t
@@ -97,6 +122,13 @@ called_refused code k new out z e =
     record {
       said = is_refused Done Refused code k (length new) z e;
       left = sym (ap (λ (t : Bool). cond t (put 0 (items_bytes new) out) out) (ne_eqb code 0 (λ w. z (e ∙ w))));
+    }
+
+pub called_err : (code : ℕ) (e : Refusal) (new : List Item) (out : List ℕ) → number_of e ≡ code → Called code new out (Err e) out
+called_err code e new out q =
+    record {
+      said = answer_err e code (length new) q;
+      left = (called_refused code (number_of e) new out (number_not_zero e) q).left;
     }
 
 -- ---- apply: n is the length of the shortest column
@@ -117,11 +149,16 @@ module _ (k a b p c l old out : List ℕ) (n : ℕ) (least-is : n ≡ least (len
   unfolding delta_items
   new_is = ap (λ (es : List Given). applied es (items_in old)) all-givens
 
-  module _ (code : ℕ) (e : code ≡ apply_code (items_in out) all (items_in old)) where
-    pub delta_done : code ≡ 0 → (m : ℕ) (t : List ℕ) → (m ≡ length (applied all (items_in old))) × (t ≡ put 0 (items_bytes (applied all (items_in old))) out)
-        → Called (delta_code k a b p c l old out) (delta_items k a b p c l old) out (Done m) t
-    delta_done z m t w =
-        called_done (delta_code k a b p c l old out) m (delta_items k a b p c l old) out t (sym (e ∙ code_is) ∙ z) (w.0 ∙ ap length new_is) (w.1 ∙ ap (λ (x : List Item). put 0 (items_bytes x) out) new_is)
+  pub delta_done : 0 ≡ apply_code (items_in out) all (items_in old) → (m : ℕ) (t : List ℕ) → (m ≡ length (applied all (items_in old))) × (t ≡ put 0 (items_bytes (applied all (items_in old))) out)
+      → Called (delta_code k a b p c l old out) (delta_items k a b p c l old) out (Done m) t
+  delta_done e m t w =
+      called_done (delta_code k a b p c l old out) m (delta_items k a b p c l old) out t (sym (e ∙ code_is)) (w.0 ∙ ap length new_is) (w.1 ∙ ap (λ (x : List Item). put 0 (items_bytes x) out) new_is)
 
-    pub delta_refused : (code ≡ 0 → ⊥) → Called (delta_code k a b p c l old out) (delta_items k a b p c l old) out (Refused code) out
-    delta_refused z = called_refused (delta_code k a b p c l old out) code (delta_items k a b p c l old) out z (e ∙ code_is)
+  pub delta_refused : (r : ApplyAnswer) (e : Refusal) → IsErrAnd r (λ (d : Refusal). d ≡ e) → number_of e ≡ apply_code (items_in out) all (items_in old)
+      → Called (delta_code k a b p c l old out) (delta_items k a b p c l old) out r out
+  delta_refused r e h z =
+      let w = err_from_is_err_and r h in
+      rw (w.1 ∙ ap Err w.2) (called_err (delta_code k a b p c l old out) e (delta_items k a b p c l old) out (z ∙ code_is))
+
+-- what the code decides, test by test
+pub ruleset rows_codes = (rows_low, rows_few, rows_full, rows_done)

@@ -98,3 +98,8 @@ module _ (f : ℕ → Given) (n i : ℕ) where
   pub new_done : (left free : ℕ) → n ≤ i → leb (new_len (tab f i (n - i)) left) free ≡ leb left free
   unfolding new_len
   new_done left free h = ap (λ (l : List Given). leb (new_len l left) free) (tab_none f n i h)
+
+-- the steps of the two loops
+pub ruleset used_steps = (used_turn, used_stop, used_done)
+
+pub ruleset new_steps = (left_start, left_on, new_turn, new_stop, new_done)

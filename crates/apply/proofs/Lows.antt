@@ -110,6 +110,9 @@ module _ {A : Type 0} (F : A → ℕ) (f : ℕ → A) (n : ℕ) where
   unfolding lowest
   low_end i c h e = sym (lower_end c) ∙ (sym (ap (λ (l : List A). lower c (lowest F l)) (tab_none f n i h)) ∙ e)
 
+-- the steps of that loop
+pub ruleset low_steps = (low_start, low_next, low_end)
+
 -- ---- by the tests' values
 
 pub item_by : (x : Item) (f r s : Bool) → formed x.content ≡ f → room_of x.id (len_of x.content) ≡ r → eqb (len_of x.content) 1 ≡ s → code_by f r s ≡ item_code x

@@ -23,15 +23,15 @@ use Rattle.rope.proofs.Rights.{row_drop, row_ok, row_none}
 use Rattle.rope.proofs.WellFormed.{formed_of}
 use Rattle.rope.proofs.States.{part, part_spans}
 use Rattle.apply.specs.Maybe.{ApplyAnswer}
-use Rattle.std.specs.Prelude.{Ok as Done}
-use Rattle.span.specs.Refusal.{refused as Refused}
+use Rattle.std.specs.Prelude.{Err, Ok as Done}
+use Rattle.span.specs.declared.refusal.Refusal.TheVariants as Refuse
 use Rattle.apply.specs.Apply.{item_of, items}
 use Rattle.apply.specs.Items.{items_in, items_bytes}
 use Rattle.apply.specs.Called.{Called, shown_items, shown_code, visible_code}
 use Rattle.apply.proofs.DeltaApplies.{items-cons, items-append, items_old, shown_length, shown_if}
 use Rattle.apply.proofs.Tabs.{Writing, write_start, write_end, write_many, length_items}
-use Rattle.apply.proofs.Coded.{length_in, called_done, called_refused}
-use Rattle.apply.proofs.Written.{units_are}
+use Rattle.apply.proofs.Coded.{length_in, called_done, called_err}
+use Rattle.apply.proofs.Written.{units_are, put_none}
 
 -- ---- one row
 
@@ -113,9 +113,9 @@ module _ (spans : List FugueSpan) (out : List ℕ) where
   code_by t e = ap (λ (b : Bool). cond b 0 13) e
 
   module _ (many : ℕ) (e : many ≡ shown (expand spans)) where
-    pub shown_full : length out / 24 < many → Called (shown_code spans out) (shown_items spans) out (Refused 13) out
+    pub shown_full : length out / 24 < many → Called (shown_code spans out) (shown_items spans) out (Err Refuse.Output) out
     shown_full h =
-        called_refused (shown_code spans out) 13 (shown_items spans) out (λ z. omega arith)
+        called_err (shown_code spans out) Refuse.Output (shown_items spans) out
         (sym (code_by false (lt-leb (length (shown_items spans)) (length (items_in out)) (omega (arith, length_in out, length-shown spans, e)))))
 
     pub shown_fits : many ≤ length out / 24 → length (shown_items spans) * 24 ≤ length out
@@ -131,11 +131,17 @@ module _ (s out : List ℕ) where
   unfolding visible_code
   visible_by t e = ap (λ (b : Bool). cond b (shown_code (spans_of s) out) 15) e
 
-  pub visible_none : is_state s ≡ false → Called (visible_code s out) (shown_items (spans_of s)) out (Refused 15) out
-  visible_none e = called_refused (visible_code s out) 15 (shown_items (spans_of s)) out (λ z. omega arith) (sym (visible_by false e))
+  pub visible_none : is_state s ≡ false → Called (visible_code s out) (shown_items (spans_of s)) out (Err Refuse.Store) out
+  visible_none e = called_err (visible_code s out) Refuse.Store (shown_items (spans_of s)) out (sym (visible_by false e))
 
   pub visible_all : is_state s ≡ true → (n : ℕ) → n ≡ count s → (r : ApplyAnswer) (t : List ℕ)
       → Called (shown_code (rows n (part s)) out) (shown_items (rows n (part s))) out r t → Called (visible_code s out) (shown_items (spans_of s)) out r t
   visible_all e n q r t d =
       let w : rows n (part s) ≡ spans_of s = ap (λ (m : ℕ). rows m (part s)) q ∙ part_spans s in
       rw (visible_by true e) (rw w at d)
+
+-- a row that shows, and one that does not
+pub ruleset row_cases = (row_shown, row_hidden, active_all, put_none)
+
+-- the steps of the loop, where a call asks for them
+pub ruleset showing_steps = (showing_start, row_fine, showing_room, showing_end)

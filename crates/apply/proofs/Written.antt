@@ -22,13 +22,15 @@ use Rattle.span.proofs.IdsLaws.{roomy, room_opt_lem}
 use Rattle.span.proofs.ListLaws.{tab_from}
 use Rattle.span.proofs.UnitLaws.{span_of_lem}
 use Rattle.units.specs.Maybe.{OptLamport}
+use Rattle.units.specs.declared.diff.Entry.TheVariants.{Insert}
 use Rattle.apply.specs.declared.item.Item.{Item}
-use Rattle.apply.specs.Apply.{Given, item_of, item_at, items_of, lamport_fits, applied, used}
+use Rattle.apply.specs.Apply.{Given, Known, item_of, item_at, items_of, lamport_fits, applied, used}
 use Rattle.apply.specs.Items.{items_in, items_bytes}
 use Rattle.apply.specs.Given.{takes, gives, made, bare_span, given_code, insert_code, lowest}
 use Rattle.apply.specs.Called.{Allowed}
 use Rattle.apply.proofs.DeltaApplies.{unit_item}
 use Rattle.apply.proofs.Tabs.{tab_turn, tab_none, tab_all, Writing, write_start, write_many, items_units, length_items}
+use Rattle.apply.proofs.Lows.{code_insert}
 use Rattle.apply.proofs.Fits.{used-cons, applied-cons, length-made}
 use Rattle.apply.proofs.Coded.{length_in}
 
@@ -64,6 +66,9 @@ module _ (c : RichtextChunk) (i : Id) where
   pub bare_items : map item_of (units_of (bare_span i c)) ≡ items_of c i
   unfolding real_of
   bare_items = units_are (bare_span i c)
+
+  pub bare_fine : (l : OptLamport) → given_code (Known (Insert c i l)) ≡ 0 → span_code (bare_span i c) ≡ 0
+  bare_fine l q = bare_ok (insert_ok c i l (code_insert c i l ∙ q))
 
 -- ---- one entry
 
@@ -188,3 +193,9 @@ module _ (f : ℕ → Given) (n : ℕ) (o : List ℕ) (i at k : ℕ) (s0 s : Lis
 
     pub rest_is : (s2 : List ℕ) → s2 ≡ put (k * 24) (items_bytes (take (length o / 24 - at) (drop at (items_in o)))) s → s2 ≡ put 0 (items_bytes (applied (tab f 0 n) (items_in o))) s0
     rest_is s2 w = last_is f n (items_in o) i at k s0 s v h s2 (w ∙ ap (λ (m : ℕ). put (k * 24) (items_bytes (take (m - at) (drop at (items_in o)))) s) (sym (length_in o)))
+
+-- what an entry gives, written
+pub ruleset written = (bare_fine, bare_items, put_none)
+
+-- the steps of the loop, where a call asks for them
+pub ruleset going_steps = (going_start, going_code, going_room, rows_used, rest_low, rest_rows, rest_room)

@@ -51,7 +51,7 @@ fn check_item(x: Item) -> Result<(), Refusal>
 }
 
 // The lowest refusal among the first n entries. The caller takes n from the shortest column.
-#[tactic(auto, using(crate::proofs::Lows::low_start, crate::proofs::Lows::low_next, crate::proofs::Lows::low_end))]
+#[tactic(auto, using(crate::proofs::Lows::low_steps))]
 fn check_entries(
     kind: &[u8],
     a: &[u32],
@@ -73,7 +73,7 @@ fn check_entries(
 }
 
 // The lowest refusal among the first n items. The caller counts the rows that fit.
-#[tactic(auto, using(crate::proofs::Lows::low_start, crate::proofs::Lows::low_next, crate::proofs::Lows::low_end))]
+#[tactic(auto, using(crate::proofs::Lows::low_steps))]
 fn check_items(s: &[u8], n: usize) -> Result<(), Refusal>
     requires { n * 24 ≤ length s.now }
     ensures { code_of result ≡ lowest item_code (tab (item_in s.now) 0 n) }
@@ -86,7 +86,7 @@ fn check_items(s: &[u8], n: usize) -> Result<(), Refusal>
 }
 
 // Whether the first n entries use no more than `have` old units; n as above. It stops at the first that does not fit, so that no sum grows too large.
-#[tactic(auto, using(crate::proofs::Fits::used_turn, crate::proofs::Fits::used_stop, crate::proofs::Fits::used_done))]
+#[tactic(auto, using(crate::proofs::Fits::used_steps))]
 fn used_fits(
     kind: &[u8],
     a: &[u32],
@@ -112,7 +112,7 @@ fn used_fits(
 }
 
 // Whether the new list of `have` old units has no more than `room` units; n as above. Asked only where the old units suffice.
-#[tactic(auto, using(crate::proofs::Fits::left_start, crate::proofs::Fits::left_on, crate::proofs::Fits::new_turn, crate::proofs::Fits::new_stop, crate::proofs::Fits::new_done))]
+#[tactic(auto, using(crate::proofs::Fits::new_steps))]
 fn new_fits(
     kind: &[u8],
     a: &[u32],
@@ -143,6 +143,7 @@ fn new_fits(
 
 // What refuses the call: the lowest of all that refuse an entry or an old unit, then too few old units, then too little room. The caller takes n
 // from the shortest column.
+#[tactic(auto, using(crate::proofs::Coded::rows_codes, span::proofs::RefusalLaws::number_not_zero))]
 fn check_apply(
     kind: &[u8],
     a: &[u32],
@@ -190,6 +191,7 @@ fn bare(id: Id, content: RichtextChunk) -> FugueSpan
 }
 
 // What an entry gives, from row k of the output on; `at` old units are used up. All refusals were decided before the first write.
+#[tactic(auto, using(crate::proofs::Written::written), unfolding(crate::specs::Given::takes, crate::specs::Given::gives, crate::specs::Given::made))]
 fn put_given(g: Option<Entry>, old: &[u8], at: usize, out: &mut [u8], k: usize)
     requires { (given_code g ≡ 0) × (((at + takes g) * 24 ≤ length old.now) × ((k + gives g) * 24 ≤ length out.old)) }
     ensures { out.new ≡ put (k * 24) (items_bytes (made g (drop at (items_in old.now)))) out.old }
@@ -202,6 +204,7 @@ fn put_given(g: Option<Entry>, old: &[u8], at: usize, out: &mut [u8], k: usize)
 }
 
 // The new list, from the first row of the output on; the rest of it stays. The answer is how many items it has. Asked only where nothing refuses.
+#[tactic(auto, using(crate::proofs::Written::going_steps))]
 fn write_items(
     kind: &[u8],
     a: &[u32],
@@ -230,6 +233,7 @@ fn write_items(
 }
 
 // A delta, its entries in the columns (as many as the shortest has), applied to the items in `old`: the new list is written to the output's front.
+#[tactic(auto, using(crate::proofs::Coded::allowed_of))]
 pub fn apply(
     kind: &[u8],
     a: &[u32],

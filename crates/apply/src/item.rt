@@ -68,6 +68,7 @@ pub fn item_of(unit: FugueSpan) -> Item
 }
 
 // The units of a span, from row k of the output on. Callers have checked the span and the room.
+#[tactic(auto, using(crate::proofs::Tabs::copy_room, span::proofs::Unique::in_range_lem))]
 pub fn put_units(out: &mut [u8], k: usize, x: FugueSpan)
     requires { (span_code x ≡ 0) × ((k + len_span x) * 24 ≤ length out.old) }
     ensures { out.new ≡ put (k * 24) (items_bytes (map item_of (units_of x))) out.old }
@@ -79,6 +80,7 @@ pub fn put_units(out: &mut [u8], k: usize, x: FugueSpan)
 
 // The n items from row `at` of old on, from row k of the output on. Callers have counted both. The rows are not copied as bytes: what stands in
 // the last four of an old row is not the new list's.
+#[tactic(auto, using(crate::proofs::Tabs::copy_room, crate::proofs::Tabs::copy_end, crate::proofs::Tabs::items_part))]
 pub fn copy_items(old: &[u8], at: usize, out: &mut [u8], k: usize, n: usize)
     requires { ((at + n) * 24 ≤ length old.now) × ((k + n) * 24 ≤ length out.old) }
     ensures { out.new ≡ put (k * 24) (items_bytes (take n (drop at (items_in old.now)))) out.old }

@@ -18,6 +18,7 @@ use span::span::FugueSpan;
 use store::header;
 
 // The visible units of a row, from row k of the output on. The rows are well formed, and the room was asked before the first write.
+#[tactic(auto, using(crate::proofs::Shown::row_cases))]
 fn put_shown(out: &mut [u8], k: usize, row: FugueSpan)
     requires { (span_code row ≡ 0) × ((k + active_len row) * 24 ≤ length out.old) }
     ensures { out.new ≡ put (k * 24) (items_bytes (items (units_of row))) out.old }
@@ -28,6 +29,7 @@ fn put_shown(out: &mut [u8], k: usize, row: FugueSpan)
 }
 
 // The visible units of n rows, from the first row of the output on. Asked only where they fit.
+#[tactic(auto, using(crate::proofs::Shown::showing_steps))]
 fn write_shown(s: &[u8], n: usize, out: &mut [u8])
     requires { Stored n s.now × (length (shown_items (rows n s.now)) * 24 ≤ length out.old) }
     ensures { out.new ≡ put 0 (items_bytes (shown_items (rows n s.now))) out.old }
@@ -41,6 +43,7 @@ fn write_shown(s: &[u8], n: usize, out: &mut [u8])
 }
 
 // visible_items of the rows. The entry has checked that they are a well formed list.
+#[tactic(auto, using(crate::proofs::Shown::shown_fits))]
 fn visible_rows(s: &[u8], n: usize, out: &mut [u8]) -> Result<usize, Refusal>
     requires { Stored n s.now }
     ensures { Called (shown_code (rows n s.now) out.old) (shown_items (rows n s.now)) out.old result out.new }
@@ -54,6 +57,7 @@ fn visible_rows(s: &[u8], n: usize, out: &mut [u8]) -> Result<usize, Refusal>
 }
 
 // The visible units of a store, in list order, written to the output's front; the answer is how many there are.
+#[tactic(auto, using(rope::proofs::States::state_of))]
 pub fn visible_items(s: &[u8], out: &mut [u8]) -> Result<usize, Refusal>
     ensures { Called (visible_code s.now out.old) (shown_items (spans_of s.now)) out.old result out.new }
 {
