@@ -96,6 +96,7 @@ fn plain(s: &[u8], n: usize) -> bool
 
 // The same by the order of the ids, in n log n. The plain form answers where the sort gave no order and no clash: that it always gives one is
 // not proved, and nothing rests on it.
+#[tactic(auto, using(crate::proofs::Orders::sorted_apart))]
 fn ordered(s: &[u8], n: usize) -> bool
     requires { (n * 72 ≤ length s.now) × AllOk (rows n s.now) × (n ≤ 65536) }
     ensures { result ≡ (apart_rows [] (rows n s.now) && origins_named (rows n s.now) (expand (rows n s.now))) }

@@ -9,6 +9,7 @@ use crate::stream::push;
 use span::span::FugueSpan;
 
 // A span without its diff_status.
+#[tactic(auto, unfolding(crate::specs::Spans::clear_span, units::specs::Change::with_state))]
 pub fn cleared(row: FugueSpan) -> FugueSpan
     ensures { result ≡ clear_span row }
 {

@@ -120,6 +120,7 @@ impl Exact {
 
 impl Tail {
     // Whether a piece joins the last one.
+    #[tactic(auto, unfolding(crate::specs::Exact::follows))]
     pub fn follows(self, x: Exact) -> bool
         ensures { result ≡ follows self x }
     {
@@ -127,6 +128,7 @@ impl Tail {
     }
 
     // One more piece. (The number has room for it, as a list has at most 65,536 rows, of at most three pieces each.)
+    #[tactic(auto, unfolding(crate::specs::Exact::step_of))]
     pub fn step(self, x: Exact) -> Self
         requires { self.rows ≤ 4294967295 }
         ensures { result ≡ step_of self x }
@@ -140,6 +142,7 @@ impl Tail {
     }
 
     // The units from..to of a row, if there are any. (The row is well formed, which the entries asked.)
+    #[tactic(auto, using(span::proofs::Unique::in_range_lem, crate::proofs::Exacts::part_step, crate::proofs::Exacts::part_stay))]
     pub fn part(self, u: Update, row: FugueSpan, from: u32, to: u32) -> Self
         requires { (self.rows ≤ 4294967295) × (span_code row ≡ 0) × (to ≤ len_span row) }
         ensures { result ≡ tail_of u.diff self (part_of row from to) }
@@ -152,6 +155,7 @@ impl Tail {
     }
 
     // The same of units that change, in such a row.
+    #[tactic(auto, using(span::proofs::Unique::in_range_lem, crate::proofs::Exacts::changed_step, crate::proofs::Exacts::changed_stay))]
     pub fn changed(self, u: Update, row: FugueSpan, from: u32, to: u32) -> Self
         requires { (self.rows ≤ 4294967295) × (span_code row ≡ 0) × (to ≤ len_span row) }
         ensures { result ≡ tail_of u.diff self (changed_of (Ch.Update u) row from to) }
@@ -176,6 +180,7 @@ impl Tail {
 }
 
 // The number of rows that an update would leave, in a well formed list, which the entries asked.
+#[tactic(auto, using(crate::proofs::Exacts::going_none, crate::proofs::Exacts::going_start, crate::proofs::Exacts::going_turn, crate::proofs::Exacts::going_done, crate::proofs::Rights::row_ok))]
 pub fn rows_after(s: &[u8], n: usize, u: Update) -> usize
     requires { (n * 72 ≤ length s.now) × AllOk (rows n s.now) × (n ≤ 65536) × (u.from ≤ u.to) }
     ensures { result ≡ length (join (update_units u.peer (pos u.from) (pos u.to) u.set u.change u.diff (expand (rows n s.now)))) }

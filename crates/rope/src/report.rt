@@ -34,6 +34,7 @@ pub fn touched_len(s: &[u8], n: usize, d: Delete) -> usize
 }
 
 // The units from..to of a row go to row k of the output, if there are any. The answer is the number of rows that are written.
+#[tactic(auto, using(span::proofs::Unique::in_range_lem))]
 pub fn put_part(out: &mut [u8], k: usize, row: FugueSpan, from: u32, to: u32) -> usize
     requires { (span_code row ≡ 0) × (to ≤ len_span row) × (k ≤ 65536) × ((k + min 1 (to - from)) * 72 ≤ length out.old) }
     ensures { PutPart k row from to result out.old out.new }

@@ -15,6 +15,7 @@ use store::header;
 use store::limits::UNITS;
 
 // Whether the bytes are a well formed store.
+#[tactic(auto, using(crate::proofs::States::part_spans, crate::proofs::States::part_length, crate::proofs::States::state_short, crate::proofs::States::state_over, crate::proofs::States::state_rows, crate::proofs::States::room_most, crate::proofs::States::room_long))]
 pub fn check(s: &[u8]) -> bool
     ensures { result ≡ is_state s.now }
 {

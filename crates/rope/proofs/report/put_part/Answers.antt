@@ -1,11 +1,7 @@
 use Prim.Native.Nat.{◌-◌}
 use native.Mathlib.Omega.{arith}
-use Rattle.span.proofs.Unique.{in_range_lem}
 use Rattle.rope.proofs.Reporting.{put_some, put_none}
 use Rattle.rope.proofs.report.put_part.Goals as goal
-
-pub piece-requires : goal.piece-requires
-piece-requires c = let a = c.args in in_range_lem a.row a.from a.to c.requires.0 c.if-from-to.true c.requires.1
 
 pub returns-then-from-to : goal.returns-then-from-to
 returns-then-from-to c = let a = c.args in put_some a.k a.row c.piece.result a.from a.to a.out.now c.put_row.new.s c.if-from-to.true (omega (arith, c.requires.3, c.if-from-to.true)) c.piece.ensures c.put_row.ensures
