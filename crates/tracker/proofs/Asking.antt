@@ -9,7 +9,9 @@ use Rattle.span.proofs.AnswerLaws.{is_done, is_refused}
 use Rattle.span.specs.Units.{expand}
 use Rattle.store.specs.Row.{rows}
 use Rattle.store.specs.Header.{count, room}
-use Rattle.std.specs.Prelude.{Ok}
+use Rattle.std.specs.Prelude.{Ok, Err}
+use Rattle.span.specs.declared.refusal.Refusal.TheVariants as Refuse
+use Rattle.span.proofs.RefusalLaws.{refusal_back, answer_err}
 use Rattle.span.specs.Refusal.{refused}
 use Rattle.units.specs.Place.{shown}
 use Rattle.units.specs.Query.{real_span_at}
@@ -29,13 +31,13 @@ module _ (s t e : List ℕ) where
     unfolding ask_number
     ask_none = sym (ap (λ (b : Bool). unless b 15 (ask_code (room s) (target_room t) (history_in s t e))) w)
 
-    pub len_none : refused 15 ≡ len_asked s t e
+    pub len_none : Err Refuse.Store ≡ len_asked s t e
     unfolding len_asked
-    len_none = is_refused Ok refused (ask_number s t e) 15 (shown (on_units (history_in s t e)).list) (λ z. omega (arith, z)) ask_none
+    len_none = answer_err Refuse.Store (ask_number s t e) (shown (on_units (history_in s t e)).list) ask_none
 
-    pub real_none : (at : ℕ) → refused 15 ≡ real_asked s t e at
+    pub real_none : (at : ℕ) → Err Refuse.Store ≡ real_asked s t e at
     unfolding real_asked
-    real_none at = is_refused real_done refused (ask_number s t e) 15 (real_span_at (history_in s t e).list at) (λ z. omega (arith, z)) ask_none
+    real_none at = ap Err (sym (refusal_back Refuse.Store)) ∙ is_refused real_done refused (ask_number s t e) 15 (real_span_at (history_in s t e).list at) (λ z. omega (arith, z)) ask_none
 
   module _ (w : is_history s t e ≡ true) where
     ask_zero : ask_number s t e ≡ 0

@@ -1,13 +1,13 @@
 -- A history that was opened is well formed, and the start; its number is the history's own where the buffers are long enough. Assumes nothing.
 use Prim.Native.Nat.{ℕ, zero, suc, ◌+◌, ◌-◌, ◌^◌, ◌≤◌, ◌<◌}
-use mathlib.Core.Path.{◌≡◌, refl, sym, ap, ◌∙◌}
-use mathlib.Core.Bool.{Bool, true, cond}
+use mathlib.Core.Path.{◌≡◌, refl, sym, ap, subst, ◌∙◌}
+use mathlib.Core.Bool.{Bool, true, false, ◌&&◌, cond}
 use mathlib.Core.List.{List, [], ◌∷◌, append-nil}
 use native.Mathlib.Omega.{arith}
 use lib.Dec.{leb, eqb}
 use lib.ListN.{length, drop}
 use lib.Seq.{drop-drop}
-use borrow.Author.Tests.{le-leb, lt-leb, ne_eqb}
+use borrow.Author.Tests.{le-leb, lt-leb, leb-true, leb-false, ne_eqb}
 use Rattle.words.specs.Le.{bytes_of, put}
 use Rattle.words.proofs.Puts.{length-put, drop-put}
 use Rattle.span.specs.declared.span.FugueSpan.{FugueSpan}
@@ -18,10 +18,10 @@ use Rattle.store.specs.Header.{room, spans_of}
 use Rattle.store.specs.Header as Spans
 use Rattle.units.specs.Query.{placeholder}
 use Rattle.units.specs.Codes.{placeholder_code}
-use Rattle.rope.specs.Entries.{open_bytes, open_with_code, open_with_bytes}
+use Rattle.rope.specs.Entries.{open_code as store_code, open_bytes, open_with_code, open_with_bytes}
 use Rattle.rope.specs.Edits.{past_rows}
 use Rattle.rope.proofs.Opened.{empty_spans, placeholder_ok, placeholder_spans}
-use Rattle.rope.proofs.States.{open_done, with_none, with_many, with_full, with_done, room_head}
+use Rattle.rope.proofs.States.{open_short, open_done, with_none, with_many, with_full, with_done, room_head}
 use Rattle.history.specs.Arrive.{start}
 use Rattle.history.specs.Valid.{valid}
 use Rattle.history.specs.Codes.{open_code, stored}
@@ -99,13 +99,36 @@ opened_not code n r s t e q z =
 -- ---------------------------------------------------------------- an empty history
 
 module _ (s e : List ℕ) where
-  pub short_spans : length s < 72 → 13 ≡ open_number s e
+  short_spans : length s < 72 → 13 ≡ open_number s e
   unfolding open_number
   short_spans h = rw (lt-leb 72 (length s) h)
 
-  pub short_edits : 72 ≤ length s → length e < EDIT_BYTES → 13 ≡ open_number s e
+  pub short_edits : length e < EDIT_BYTES → 13 ≡ open_number s e
   unfolding open_number
-  short_edits h k = rw (le-leb 72 (length s) h, lt-leb EDIT_BYTES (length e) k)
+  short_edits k = rw (lt-leb EDIT_BYTES (length e) k) (go (leb 72 (length s)))
+    where
+      go : (b : Bool) → ◌≡◌ {A = ℕ} 13 (cond (b && false) 0 13)
+      go true = refl
+      go false = refl
+
+  -- the store's own opening, by its number
+  pub store_head : store_code s ≡ 0 → 72 ≤ length s
+  store_head z = go (leb 72 (length s)) refl
+    where
+      go : (b : Bool) → leb 72 (length s) ≡ b → 72 ≤ length s
+      go true q = leb-true 72 (length s) q
+      go false q = absurd (let k : 13 ≡ 0 = sym (open_short s (leb-false 72 (length s) q)).0 ∙ z in omega (arith, k))
+
+  pub opened_short : (k : ℕ) (t s' : List ℕ) → k ≡ store_code s → (k ≡ 0 → ⊥) → s' ≡ open_bytes s → Opened (open_number s e) 0 k s t e s' e
+  opened_short k t s' q z p = go (leb 72 (length s)) refl
+    where
+      go : (b : Bool) → leb 72 (length s) ≡ b → Opened (open_number s e) 0 k s t e s' e
+      go true l = absurd (z (q ∙ (open_done s (leb-true 72 (length s) l)).0))
+      go false l =
+          let h : length s < 72 = leb-false 72 (length s) l in
+          let o = open_short s h in
+          subst (λ (r : List ℕ). Opened (open_number s e) 0 k s t e r e) (sym (p ∙ o.1))
+          (opened_not (open_number s e) 0 k s t e (q ∙ (o.0 ∙ short_spans h)) z)
 
   pub number_done : 72 ≤ length s → EDIT_BYTES ≤ length e → 0 ≡ open_number s e
   unfolding open_number

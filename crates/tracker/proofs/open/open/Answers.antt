@@ -1,7 +1,9 @@
+use mathlib.Core.Path.{sym}
 use native.Mathlib.Omega.{arith}
 use Rattle.std.proofs.lemmas.Result.{err_from_is_err_and}
+use Rattle.span.proofs.RefusalLaws.{number_not_zero}
 use Rattle.tracker.specs.Opens.{open_number}
-use Rattle.tracker.proofs.Opening.{opened_not, short_spans, short_edits, opened_done}
+use Rattle.tracker.proofs.Opening.{opened_not, opened_short, short_edits, store_head, opened_done}
 use Rattle.tracker.proofs.open.open.Goals as goal
 
 pub returns-then-e-lt-EDIT_BYTES : goal.returns-then-e-lt-EDIT_BYTES
@@ -12,13 +14,12 @@ returns-then-e-lt-EDIT_BYTES c =
 pub returns-in_err-open : goal.returns-in_err-open
 returns-in_err-open c =
     let a = c.args in
+    let o = c.in_err-open.ensures in
     let p = err_from_is_err_and c.from_residual.result c.from_residual.ensures.1 in
-    let q : length a.s.now < 72 = open_refused a.s.now (sym c.in_err-open.ensures.0) in
-    rw (p.1, p.2) ?
+    rw (p.1, p.2) (opened_short a.s.now a.e.now _ a.t.now _ o.0 (number_not_zero _) o.1)
 
 pub returns : goal.returns
 returns c =
     let a = c.args in
-    let p = c.put_header in
-    let q = c.in_ok-open.ensures in
-    ?
+    let o = c.in_ok-open.ensures in
+    opened_done a.s.now a.e.now a.t.now _ _ (store_head a.s.now a.e.now (sym o.0)) c.if-e-lt-EDIT_BYTES.false o.1 c.put_header.ensures

@@ -1,8 +1,9 @@
 use mathlib.Core.Path.{sym, ◌∙◌}
 use borrow.Author.Tests.{not-true, not-false}
 use Rattle.tracker.proofs.Checking.{well_head, well_stored}
-use Rattle.tracker.proofs.Asking.{real_none, real_done}
+use Rattle.tracker.proofs.Asking.{real_none, real_is}
 use mathlib.Core.Path.{ap}
+use Rattle.std.specs.Prelude.{Ok}
 use mathlib.Core.Bool.{not}
 use Rattle.tracker.proofs.query.active_real_span_at.Goals as goal
 
@@ -29,4 +30,4 @@ real_at-requires c =
 pub returns : goal.returns
 returns c =
     let x = c.args in
-    c.real_at.ensures ∙ real_done x.s.now x.t.now x.e.now (sym c.check.ensures ∙ not-false _ (ap not c.if-not-check.false)) c.count-n.result c.count-n.ensures x.pos
+    ap Ok c.real_at.ensures ∙ real_is x.s.now x.t.now x.e.now (sym c.check.ensures ∙ not-false _ (ap not c.if-not-check.false)) c.count-n.result c.count-n.ensures x.pos

@@ -23,18 +23,18 @@ pub returns-then-units-most : goal.returns-then-units-most
 returns-then-units-most c =
     let x = c.args in let us = units_seen x.n x.s.now x.h x.e.now x.t.now x.m x.v.now in
     let len = seen_length x.n x.s.now x.h x.e.now x.t.now x.m x.v.now in
-    delete_roomy us x.d x.most (omega (arith, c.if-units-most.true, c.units.ensures, len))
+    le-leb _ _ c.if-units-most.true ∙ delete_roomy us x.d x.most (omega (arith, c.if-units-most.true, c.units.ensures, len))
 
-pub returns-then-most-count_seen : goal.returns-then-most-count_seen
+pub returns-else-count_seen-most : goal.returns-else-count_seen-most
 unfolding delete_fits fits
-returns-then-most-count_seen c =
+returns-else-count_seen-most c =
     let x = c.args in let us = units_seen x.n x.s.now x.h x.e.now x.t.now x.m x.v.now in
     let len = seen_length x.n x.s.now x.h x.e.now x.t.now x.m x.v.now in
-    sym (ap (λ (b : Bool). b && leb (length (join (delete_units x.d.at x.d.len x.d.start us))) x.most) (lt-leb (length (join us)) x.most (omega (arith, c.if-most-count_seen.true, c.count_seen.ensures))))
+    lt-leb _ _ c.if-count_seen-most.false ∙ sym (ap (λ (b : Bool). b && leb (length (join (delete_units x.d.at x.d.len x.d.start us))) x.most) (lt-leb (length (join us)) x.most (omega (arith, c.if-count_seen-most.false, c.count_seen.ensures))))
 
-pub returns : goal.returns
+pub returns-then-count_seen-most : goal.returns-then-count_seen-most
 unfolding delete_fits fits
-returns c =
+returns-then-count_seen-most c =
     let x = c.args in let us = units_seen x.n x.s.now x.h x.e.now x.t.now x.m x.v.now in
     let len = seen_length x.n x.s.now x.h x.e.now x.t.now x.m x.v.now in
-    ap (λ (k : ℕ). leb k x.most) c.count_deleted.ensures ∙ sym (ap (λ (b : Bool). b && leb (length (join (delete_units x.d.at x.d.len x.d.start us))) x.most) (le-leb (length (join us)) x.most (omega (arith, c.if-most-count_seen.false, c.count_seen.ensures))))
+    ap (λ (k : ℕ). leb k x.most) c.count_deleted.ensures ∙ sym (ap (λ (b : Bool). b && leb (length (join (delete_units x.d.at x.d.len x.d.start us))) x.most) (le-leb (length (join us)) x.most (omega (arith, c.if-count_seen-most.true, c.count_seen.ensures))))

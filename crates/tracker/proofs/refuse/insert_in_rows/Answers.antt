@@ -18,16 +18,16 @@ returns-then-many-most c =
     let len = seen_length x.n x.s.now x.h x.e.now x.t.now x.m x.v.now in
     insert_roomy x.most us x.at x.x (omega (arith, c.if-many-most.true, c.requires.2, len))
 
-pub returns-then-most-k : goal.returns-then-most-k
+pub returns-else-k-most : goal.returns-else-k-most
 unfolding insert_fits fits
-returns-then-most-k c =
+returns-else-k-most c =
     let x = c.args in let us = units_seen x.n x.s.now x.h x.e.now x.t.now x.m x.v.now in
     let len = seen_length x.n x.s.now x.h x.e.now x.t.now x.m x.v.now in
-    sym (ap (λ (b : Bool). b && leb (length (join (insert_units x.at x.x us))) x.most) (lt-leb (length (join us)) x.most (omega (arith, c.if-most-k.true, c.count_seen-k.ensures))))
+    lt-leb _ _ c.if-k-most.false ∙ sym (ap (λ (b : Bool). b && leb (length (join (insert_units x.at x.x us))) x.most) (lt-leb (length (join us)) x.most (omega (arith, c.if-k-most.false, c.count_seen-k.ensures))))
 
-pub returns : goal.returns
+pub returns-then-k-most : goal.returns-then-k-most
 unfolding insert_fits fits
-returns c =
+returns-then-k-most c =
     let x = c.args in let us = units_seen x.n x.s.now x.h x.e.now x.t.now x.m x.v.now in
     let len = seen_length x.n x.s.now x.h x.e.now x.t.now x.m x.v.now in
-    c.insert_fits.ensures ∙ sym (ap (λ (b : Bool). b && leb (length (join (insert_units x.at x.x us))) x.most) (le-leb (length (join us)) x.most (omega (arith, c.if-most-k.false, c.count_seen-k.ensures))))
+    c.insert_fits.ensures ∙ sym (ap (λ (b : Bool). b && leb (length (join (insert_units x.at x.x us))) x.most) (le-leb (length (join us)) x.most (omega (arith, c.if-k-most.true, c.count_seen-k.ensures))))

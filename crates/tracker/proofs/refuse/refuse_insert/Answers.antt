@@ -12,6 +12,7 @@ use Rattle.rope.proofs.WellFormed.{formed_of}
 use native.Mathlib.Omega.{arith}
 use mathlib.Core.Path.{ap}
 use mathlib.Core.Bool.{not}
+use Rattle.tracker.proofs.refuse.refuse_insert.Goals.{then-many-gt-UNITS-via-then-many-gt-UNITS, then-many-gt-UNITS-via-else-many-gt-UNITS+then-not-insert_in_rows}
 use Rattle.tracker.proofs.refuse.refuse_insert.Goals as goal
 
 pub returns-then-shown_seen-at : goal.returns-then-shown_seen-at
@@ -39,16 +40,11 @@ returns-then-many-gt-UNITS c =
     let len = seen_length x.n x.s.now x.h x.e.now x.t.now x.m x.v.now in
     let l : x.at ≤ shown us = omega (arith, c.if-shown_seen-at.false, c.shown_seen.ensures) in
     let k : x.h < 2000 = omega (arith, c.if-h-ge-EDITS.false) in
-    insert_units_lem x.most x.h us x.at x.x l k (omega (arith, c.if-many-gt-UNITS.true, c.units.ensures, c.len_of.ensures.0, len))
-
-pub returns-then-not-insert_in_rows : goal.returns-then-not-insert_in_rows
-returns-then-not-insert_in_rows c =
-    let x = c.args in let us = units_seen x.n x.s.now x.h x.e.now x.t.now x.m x.v.now in
-    let len = seen_length x.n x.s.now x.h x.e.now x.t.now x.m x.v.now in
-    let l : x.at ≤ shown us = omega (arith, c.if-shown_seen-at.false, c.shown_seen.ensures) in
-    let k : x.h < 2000 = omega (arith, c.if-h-ge-EDITS.false) in
-    let m : length us + len_span x.x ≤ 65536 = omega (arith, c.if-many-gt-UNITS.false, c.units.ensures, c.len_of.ensures.0, len) in
-    sym (insert_rows x.most x.h us x.at x.x l k m false (sym c.insert_in_rows.ensures ∙ not-true _ (ap not c.if-not-insert_in_rows.true)))
+    elim c.then-many-gt-UNITS.branch [
+      then-many-gt-UNITS-via-then-many-gt-UNITS w ↦ insert_units_lem x.most x.h us x.at x.x l k (omega (arith, w.if-many-gt-UNITS.true, c.units.ensures, c.len_of.ensures.0, len))
+    | then-many-gt-UNITS-via-else-many-gt-UNITS+then-not-insert_in_rows w ↦
+        let m : length us + len_span x.x ≤ 65536 = omega (arith, w.if-many-gt-UNITS.false, c.units.ensures, c.len_of.ensures.0, len) in
+        sym (insert_rows x.most x.h us x.at x.x l k m false (sym w.insert_in_rows.ensures ∙ not-true _ (ap not w.if-not-insert_in_rows.true))) ]
 
 pub returns : goal.returns
 returns c =
