@@ -1,6 +1,6 @@
 -- a text that is put together of parts is cut into them again, where a part has no byte that it is cut at; digits have none but their own
 use mathlib.Core.Path.{◌≡◌, refl, ap, ◌∙◌}
-use mathlib.Core.Bool.{Bool, true, false, and-eq-true_iff, false≢true}
+use mathlib.Core.Bool.{Bool, true, false, cond, not, and-eq-true_iff, false≢true}
 use mathlib.Core.List.{List, [], ◌∷◌, ◌++◌}
 use Prim.Native.Nat.{ℕ, zero, suc, ◌+◌, ◌≤◌}
 use native.Mathlib.Omega.{arith}
@@ -10,7 +10,7 @@ use lib.Dec.{eqb}
 use lib.IntN.{ℤ, pos, negsuc}
 use lib.ListN.{length, get_or, length-append}
 use lib.Seq.{take-length, take-append_seam, drop-append-add}
-use Rattle.text.specs.Bytes.{index_after, index_of}
+use Rattle.text.specs.Bytes.{index_of}
 use Rattle.text.specs.Numbers.{is_digit, all_digits, numeral, int_text}
 use Rattle.text.specs.Parts.{before, after, rest, part, parts, same_text}
 use Rattle.text.proofs.NumeralLaws.{numeral_digits}
@@ -25,17 +25,15 @@ pub record Other (b x : ℕ) (v : List ℕ) : Type 0 where
   pub later : Lacks b v
 
 pub lacks_cons : (b x : ℕ) (v : List ℕ) → Lacks b (x ∷ v) → Other b x v
-unfolding index_of index_after
 lacks_cons b x v e = go (eqb x b) refl e
   where
-    go : (q : Bool) → eqb x b ≡ q → index_after q (index_of b v) ≡ suc (length v) → Other b x v
+    go : (q : Bool) → eqb x b ≡ q → cond (not q) (1 + index_of b v) 0 ≡ suc (length v) → Other b x v
     go true p h = absurd (omega arith)
     go false p h = record { here = p; later = omega arith }
 
 -- ---- cut
 
 index_append : (b : ℕ) (v w : List ℕ) → Lacks b v → index_of b (v ++ w) ≡ length v + index_of b w
-unfolding index_of index_after
 index_append b [] w e = omega arith
 index_append b (x ∷ v) w e = let o = lacks_cons b x v e in rw (o.here, index_append b v w o.later) (omega arith)
 
@@ -49,7 +47,6 @@ before_all b v e = rw e (take-length v)
 -- a part that b ends
 module _ (b : ℕ) (v w : List ℕ) (e : Lacks b v) where
   index : index_of b (v ++ (b ∷ w)) ≡ length v
-  unfolding index_of index_after
   index = index_append b v (b ∷ w) e ∙ rw (eq-eqb b b refl) (omega arith)
 
   pub before_cut : before b (v ++ (b ∷ w)) ≡ v
@@ -105,14 +102,14 @@ module _ (b : ℕ) (h : is_digit b ≡ false) where
   other x d = ne_eqb x b (λ e. false≢true cc)
 
   pub digits_lack : (v : List ℕ) → all_digits v ≡ true → Lacks b v
-  unfolding index_of index_after all_digits
+  unfolding all_digits
   digits_lack [] d = refl
-  digits_lack (x ∷ v) d = let p = (and-eq-true_iff (is_digit x) (all_digits v)).0 d in rw (other x p.0, digits_lack v p.1)
+  digits_lack (x ∷ v) d = let p = (and-eq-true_iff (is_digit x) (all_digits v)).0 d in rw (other x p.0, digits_lack v p.1) (omega arith)
 
   pub numeral_lacks : (n : ℕ) → Lacks b (numeral n)
   numeral_lacks n = digits_lack (numeral n) (numeral_digits n)
 
   pub int_lacks : (z : ℤ) → eqb 45 b ≡ false → Lacks b (int_text z)
-  unfolding int_text index_of index_after
+  unfolding int_text
   int_lacks (pos n) m = numeral_lacks n
-  int_lacks (negsuc n) m = rw (m, numeral_lacks (suc n))
+  int_lacks (negsuc n) m = rw (m, numeral_lacks (suc n)) (omega arith)

@@ -1,19 +1,17 @@
 -- a whole number by its sign and its distance from zero, and its text read back
-use mathlib.Core.Path.{◌≡◌, refl, sym, ap, ◌∙◌}
+use mathlib.Core.Path.{◌≡◌, refl, ap, ◌∙◌}
 use mathlib.Core.Bool.{true, false}
 use mathlib.Core.List.{List, [], ◌∷◌}
-use Prim.Native.Nat.{ℕ, suc, ◌+◌, ◌-◌, ◌*◌, ◌^◌, ◌≤◌, ◌<◌}
+use Rattle.std.specs.Prelude.{Some, option_map}
+use Prim.Native.Nat.{ℕ, suc, ◌+◌, ◌-◌, ◌^◌, ◌≤◌, ◌<◌}
 use native.Mathlib.Omega.{arith}
 use lib.IntN.{ℤ, pos, negsuc, nat_abs}
 use lib.Signed.{lt_z}
 use mir.Syntax.{w16, w32}
 use mir.Val.{of_z, to_z, SFits}
 use mir.Facts.{to_z-of_z}
-use borrow.Author.Tests.{le-leb, ltb-true, ne_eqb}
-use Rattle.text.specs.declared.numbers.Number.TheVariants.{Is}
-use Rattle.text.specs.declared.numbers.Number32.TheVariants as Word
-use Rattle.text.specs.declared.numbers.Number16.TheVariants as Half
-use Rattle.text.specs.Numbers.{is_digit, decimal_of, numeral, int_text, negated, signed_of, fit32, fit16}
+use borrow.Author.Tests.{le-leb, ltb-true}
+use Rattle.text.specs.Numbers.{is_digit, decimal_of, numeral, int_text, negated, int_of, bits_of, signed_of, fit, fit32, fit16}
 use Rattle.text.proofs.NumeralLaws.{decimal_numeral}
 use Rattle.text.proofs.CutLaws.{Lacks, lacks_cons, numeral_lacks}
 
@@ -60,36 +58,42 @@ module _ (x : ℤ) (f : SFits w32 x) {n : ℕ} (e : n ≡ nat_abs (to_z w32 (of_
 
 -- ---- reading back
 
-unsigned : (most : ℕ) (s : List ℕ) → Lacks 45 s → signed_of most s ≡ decimal_of most s
-unfolding signed_of decimal_of
+-- a number from -(most + 1) to most
+abbrev pub Within : ℕ → ℤ → Type 0
+Within most (pos n) = n ≤ most
+Within most (negsuc n) = n ≤ most
+
+unsigned : (most : ℕ) (s : List ℕ) → Lacks 45 s → int_of most s ≡ option_map pos (decimal_of most s)
+unfolding int_of decimal_of
 unsigned most [] e = refl
 unsigned most (b ∷ s) e = rw (lacks_cons 45 b s e).here
 
 module _ (most n : ℕ) (l : n ≤ most) (h : most + 1 < 10 ^ 20) where
-  signed_above : signed_of most (int_text (pos n)) ≡ Is n
+  pos_back : int_of most (int_text (pos n)) ≡ Some (pos n)
   unfolding int_text is_digit
-  signed_above = unsigned most (numeral n) (numeral_lacks 45 refl n) ∙ decimal_numeral most n l (omega arith)
+  pos_back = unsigned most (numeral n) (numeral_lacks 45 refl n) ∙ ap (option_map pos) (decimal_numeral most n l (omega arith))
 
-  signed_below : signed_of most (int_text (negsuc n)) ≡ Is (2 * (most + 1) - suc n)
-  unfolding int_text signed_of negated
-  signed_below = ap (negated most) (decimal_numeral (most + 1) (suc n) (omega arith) (omega arith)) ∙ rw (ne_eqb (suc n) 0 (λ e. omega arith))
+  negsuc_back : int_of most (int_text (negsuc n)) ≡ Some (negsuc n)
+  unfolding int_text int_of
+  negsuc_back = ap negated (decimal_numeral (most + 1) (suc n) (omega arith) (omega arith))
 
-fit32_is : (n : ℕ) → n ≤ 4294967295 → fit32 (Is n) ≡ Word.Is n
-unfolding fit32
-fit32_is n h = rw (le-leb n 4294967295 h)
+-- a number that is put is read back
+pub int_back : (most : ℕ) (z : ℤ) → most + 1 < 10 ^ 20 → Within most z → int_of most (int_text z) ≡ Some z
+int_back most (pos n) h l = pos_back most n l h
+int_back most (negsuc n) h l = negsuc_back most n l h
 
-fit16_is : (n : ℕ) → n ≤ 65535 → fit16 (Is n) ≡ Half.Is n
-unfolding fit16
-fit16_is n h = rw (le-leb n 65535 h)
+fit_is : (most n : ℕ) → n ≤ most → fit most (Some n) ≡ Some n
+unfolding fit
+fit_is most n h = rw (le-leb n most h)
 
--- a number that is put is read back by its bits
-pub number_back : (n : ℕ) → n < 2 ^ 32 → fit32 (decimal_of 4294967295 (numeral n)) ≡ Word.Is n
-number_back n h = ap fit32 (decimal_numeral 4294967295 n (omega arith) (omega arith)) ∙ fit32_is n (omega arith)
+-- and by its bits
+pub number_back : (n : ℕ) → n < 2 ^ 32 → fit32 (decimal_of 4294967295 (numeral n)) ≡ Some n
+number_back n h = ap fit32 (decimal_numeral 4294967295 n (omega arith) (omega arith)) ∙ fit_is 4294967295 n (omega arith)
 
-pub int32_back : (z : ℤ) → SFits w32 z → fit32 (signed_of 2147483647 (int_text z)) ≡ Word.Is (of_z w32 z)
-int32_back (pos n) f = ap fit32 (signed_above 2147483647 n (omega (arith, f.sfits)) (omega arith)) ∙ fit32_is n (omega (arith, f.sfits))
-int32_back (negsuc n) f = ap fit32 (signed_below 2147483647 n (omega (arith, f.sfits)) (omega arith)) ∙ fit32_is (4294967296 - suc n) (omega arith)
+pub int32_back : (z : ℤ) → SFits w32 z → fit32 (signed_of 2147483647 (int_text z)) ≡ Some (of_z w32 z)
+int32_back (pos n) f = ap (λ o. fit32 (bits_of 2147483647 o)) (int_back 2147483647 (pos n) (omega arith) (omega (arith, f.sfits))) ∙ fit_is 4294967295 n (omega (arith, f.sfits))
+int32_back (negsuc n) f = ap (λ o. fit32 (bits_of 2147483647 o)) (int_back 2147483647 (negsuc n) (omega arith) (omega (arith, f.sfits))) ∙ fit_is 4294967295 (4294967296 - suc n) (omega arith)
 
-pub int16_back : (z : ℤ) → SFits w16 z → fit16 (signed_of 32767 (int_text z)) ≡ Half.Is (of_z w16 z)
-int16_back (pos n) f = ap fit16 (signed_above 32767 n (omega (arith, f.sfits)) (omega arith)) ∙ fit16_is n (omega (arith, f.sfits))
-int16_back (negsuc n) f = ap fit16 (signed_below 32767 n (omega (arith, f.sfits)) (omega arith)) ∙ fit16_is (65536 - suc n) (omega arith)
+pub int16_back : (z : ℤ) → SFits w16 z → fit16 (signed_of 32767 (int_text z)) ≡ Some (of_z w16 z)
+int16_back (pos n) f = ap (λ o. fit16 (bits_of 32767 o)) (int_back 32767 (pos n) (omega arith) (omega (arith, f.sfits))) ∙ fit_is 65535 n (omega (arith, f.sfits))
+int16_back (negsuc n) f = ap (λ o. fit16 (bits_of 32767 o)) (int_back 32767 (negsuc n) (omega arith) (omega (arith, f.sfits))) ∙ fit_is 65535 (65536 - suc n) (omega arith)

@@ -1,17 +1,22 @@
 -- numbers as text, as the loop over the digits meets them
-use mathlib.Core.Path.{◌≡◌, refl, sym, ap, ◌∙◌}
-use mathlib.Core.Bool.{Bool, true, false, cond, ◌&&◌, and-eq-true_iff}
+use mathlib.Core.Path.{◌≡◌, refl, sym, ◌∙◌}
+use mathlib.Core.Bool.{Bool, true, false, cond, ◌&&◌, and-eq-true_iff, false≢true}
 use mathlib.Core.List.{List, [], ◌∷◌}
+use Rattle.std.specs.Prelude.{Option, None, Some, option_map, pos}
 use Prim.Native.Nat.{ℕ, zero, suc, ◌+◌, ◌-◌, ◌*◌, ◌≤◌, ◌<◌}
 use native.Mathlib.Omega.{arith}
 use native.Mathlib.Numerals.{add-one}
-use borrow.Author.Tests.{le-leb, lt-leb, leb-true, eq-eqb, ne_eqb}
-use lib.Dec.{leb}
-use lib.ListN.{length, drop, get_or, drop_of_length-le}
+use borrow.Author.Tests.{le-leb, lt-leb, leb-true}
+use Rattle.std.proofs.Common.{◌^◌, ◌-ℤ◌, neg_ℤ}
+use Rattle.std.proofs.Math.IntN.{+ℤ_idl}
+use Rattle.std.proofs.lemmas.Int.{to_z_pos, to_z-of_z}
+use mir.Syntax.{w64}
+use mir.Val.{to_z, of_z, SFits}
+use lib.Dec.{leb, eqb}
+use Rattle.std.specs.Str.{bytes_eq}
+use lib.ListN.{length, take, drop, get_or, drop_of_length-le}
 use lib.Seq.{drop-cons}
-use Rattle.text.specs.declared.numbers.Number.{Number}
-use Rattle.text.specs.declared.numbers.Number.TheVariants.{Is, Nothing}
-use Rattle.text.specs.Numbers.{is_digit, all_digits, value, up_to, decimal_of, negated, signed_of}
+use Rattle.text.specs.Numbers.{is_digit, all_digits, value, up_to, decimal_of, negated, int_of}
 
 pub digit_range : (b : ℕ) → is_digit b ≡ true → (48 ≤ b) × (b ≤ 57)
 unfolding is_digit
@@ -27,16 +32,16 @@ and-false : (x : Bool) → (x && false) ≡ false
 and-false true = refl
 and-false false = refl
 
-pub up_to_past : (most v : ℕ) (s : List ℕ) → most < v → up_to most v s ≡ Nothing
+pub up_to_past : (most v : ℕ) (s : List ℕ) → most < v → up_to most v s ≡ None
 unfolding up_to
 up_to_past most v s h = rw (lt-leb (value v s) most (omega (arith, value_grows v s)), and-false (all_digits s))
 
-pub up_to_end : (most v : ℕ) (s : List ℕ) (i : ℕ) → length s ≤ i → v ≤ most → Is v ≡ up_to most v (drop i s)
+pub up_to_end : (most v : ℕ) (s : List ℕ) (i : ℕ) → length s ≤ i → v ≤ most → Some v ≡ up_to most v (drop i s)
 unfolding up_to all_digits value
 up_to_end most v s i h k = rw (drop_of_length-le s h, le-leb v most k)
 
 module _ (most v : ℕ) (s : List ℕ) (i : ℕ) (h : i < length s) where
-  pub up_to_other : is_digit (get_or s i 0) ≡ false → up_to most v (drop i s) ≡ Nothing
+  pub up_to_other : is_digit (get_or s i 0) ≡ false → up_to most v (drop i s) ≡ None
   unfolding up_to all_digits
   up_to_other e = rw (drop-cons s i 0 h, e)
 
@@ -44,7 +49,7 @@ module _ (most v : ℕ) (s : List ℕ) (i : ℕ) (h : i < length s) where
   unfolding up_to all_digits value
   up_to_digit e = rw (add-one, drop-cons s i 0 h, e)
 
-  pub up_to_over : is_digit (get_or s i 0) ≡ true → most < v * 10 + (get_or s i 0 - 48) → up_to most v (drop i s) ≡ Nothing
+  pub up_to_over : is_digit (get_or s i 0) ≡ true → most < v * 10 + (get_or s i 0 - 48) → up_to most v (drop i s) ≡ None
   up_to_over e g = up_to_digit e ∙ up_to_past most (v * 10 + (get_or s i 0 - 48)) (drop (i + 1) s) g
 
 pub decimal_starts : (most : ℕ) (s : List ℕ) → 0 < length s → decimal_of most s ≡ up_to most 0 s
@@ -52,35 +57,57 @@ unfolding decimal_of
 decimal_starts most [] h = absurd (omega arith)
 decimal_starts most (b ∷ s) h = refl
 
-pub decimal_empty : (most : ℕ) (s : List ℕ) → length s ≡ 0 → decimal_of most s ≡ Nothing
+pub decimal_not_empty : (most : ℕ) (s : List ℕ) → eqb (length s) 0 ≡ false → up_to most 0 s ≡ decimal_of most s
+unfolding decimal_of
+decimal_not_empty most [] h = absurd (false≢true (sym h))
+decimal_not_empty most (b ∷ s) h = refl
+
+pub decimal_empty : (most : ℕ) (s : List ℕ) → length s ≡ 0 → decimal_of most s ≡ None
 unfolding decimal_of
 decimal_empty most [] h = refl
 decimal_empty most (b ∷ s) h = absurd (omega arith)
 
 -- a number that is read is not past most
-pub decimal_most : (most v : ℕ) (s : List ℕ) → decimal_of most s ≡ Is v → v ≤ most
+pub decimal_most : (most v : ℕ) (s : List ℕ) → decimal_of most s ≡ Some v → v ≤ most
 unfolding decimal_of up_to
 decimal_most most v [] e = let z : ◌≡◌ {A = ℕ} 0 1 = cc in absurd (omega arith)
 decimal_most most v (b ∷ s) e = go (all_digits (b ∷ s)) (leb (value 0 (b ∷ s)) most) refl e
   where
-    go : (d l : Bool) → leb (value 0 (b ∷ s)) most ≡ l → cond (d && l) (Is (value 0 (b ∷ s))) Nothing ≡ Is v → v ≤ most
+    go : (d l : Bool) → leb (value 0 (b ∷ s)) most ≡ l → cond (d && l) (Some (value 0 (b ∷ s))) None ≡ Some v → v ≤ most
     go true true p q = let r : value 0 (b ∷ s) ≡ v = cc in omega (arith, leb-true (value 0 (b ∷ s)) most p)
     go true false p q = let z : ◌≡◌ {A = ℕ} 0 1 = cc in absurd (omega arith)
     go false l p q = let z : ◌≡◌ {A = ℕ} 0 1 = cc in absurd (omega arith)
 
 -- ---- signed
 
-pub signed_empty : (most : ℕ) (s : List ℕ) → length s ≡ 0 → Nothing ≡ signed_of most s
-unfolding signed_of
-signed_empty most [] h = refl
-signed_empty most (b ∷ s) h = absurd (omega arith)
+-- a number below 2 ^ 63 as an i64, and its negation
+negation_fits : (n : ℕ) → n < 2 ^ 63 → SFits w64 (neg_ℤ (pos n))
+negation_fits zero h = record { sfits = omega arith }
+negation_fits (suc n) h = record { sfits = omega arith }
 
-pub signed_minus : (most : ℕ) (s : List ℕ) (n : Number) → 0 < length s → get_or s 0 0 ≡ 45 → decimal_of (most + 1) (drop 1 s) ≡ n → negated most n ≡ signed_of most s
-unfolding signed_of
-signed_minus most [] n h m e = absurd (omega arith)
-signed_minus most (b ∷ s) n h m e = rw (eq-eqb b 45 m, e)
+module _ (n : ℕ) (h : n < 2 ^ 63) where
+  pub wide_fits : SFits w64 (pos n)
+  wide_fits = record { sfits = omega arith }
 
-pub signed_plus : (most : ℕ) (s : List ℕ) → 0 < length s → (get_or s 0 0 ≡ 45 → ⊥) → decimal_of most s ≡ signed_of most s
-unfolding signed_of
-signed_plus most [] h m = absurd (omega arith)
-signed_plus most (b ∷ s) h m = rw (ne_eqb b 45 m)
+  pub wide_is : to_z w64 n ≡ pos n
+  wide_is = to_z_pos w64 n (omega arith)
+
+  pub minus_fits : SFits w64 (pos 0 -ℤ to_z w64 n)
+  minus_fits = rw (wide_is, +ℤ_idl (neg_ℤ (pos n))) (negation_fits n h)
+
+  pub minus_is : to_z w64 (of_z w64 (pos 0 -ℤ to_z w64 n)) ≡ neg_ℤ (pos n)
+  minus_is = to_z-of_z w64 (pos 0 -ℤ to_z w64 n) minus_fits ∙ rw wide_is (+ℤ_idl (neg_ℤ (pos n)))
+
+and-true : (q : Bool) → (q && true) ≡ q
+and-true true = refl
+and-true false = refl
+
+pub signed_minus : (most : ℕ) (s : List ℕ) (n : Option ℕ) → bytes_eq (take 1 s) (45 ∷ []) ≡ true → decimal_of (most + 1) (drop 1 s) ≡ n → negated n ≡ int_of most s
+unfolding int_of
+signed_minus most [] n h e = absurd (false≢true h)
+signed_minus most (b ∷ s) n h e = rw (sym (and-true (eqb b 45)) ∙ h, e)
+
+pub signed_plus : (most : ℕ) (s : List ℕ) (n : Option ℕ) → bytes_eq (take 1 s) (45 ∷ []) ≡ false → decimal_of most s ≡ n → option_map pos n ≡ int_of most s
+unfolding int_of decimal_of
+signed_plus most [] n h e = rw (← e)
+signed_plus most (b ∷ s) n h e = rw (sym (and-true (eqb b 45)) ∙ h, e)

@@ -1,7 +1,8 @@
 -- the digits of a number are the fewest that say it, and read back they say it
-use mathlib.Core.Path.{◌≡◌, refl, sym, ap, ◌∙◌}
-use mathlib.Core.Bool.{Bool, true, false, cond, ◌&&◌, and-eq-true_iff}
+use mathlib.Core.Path.{◌≡◌, refl, ap, ◌∙◌}
+use mathlib.Core.Bool.{Bool, true, false, cond, and-eq-true_iff}
 use mathlib.Core.List.{List, [], ◌∷◌, ◌++◌}
+use Rattle.std.specs.Prelude.{Some}
 use Prim.Native.Nat.{ℕ, zero, suc, ◌+◌, ◌-◌, ◌*◌, ◌/◌, ◌%◌, ◌^◌, ◌≤◌, ◌<◌}
 use native.Mathlib.Omega.{arith}
 use native.Mathlib.Nat.{pow-suc}
@@ -10,7 +11,6 @@ use borrow.Author.Tests.{leb-true, leb-false, le-leb, lt-ltb, le-ltb, ltb-true}
 use lib.Dec.{leb, ltb}
 use lib.ListN.{length, length-append}
 use Rattle.io.specs.Digits.{hex_digit_ascii, last_digits, IsDigitCount}
-use Rattle.text.specs.declared.numbers.Number.TheVariants.{Is, Nothing}
 use Rattle.text.specs.Numbers.{is_digit, all_digits, value, up_to, decimal_of, places, numeral}
 use Rattle.text.proofs.NumbersLaws.{decimal_starts}
 
@@ -117,7 +117,7 @@ unfolding numeral
 numeral_digits n = all_digits_lem (places 19 n) n
 
 -- a number that is put is read back
-pub decimal_numeral : (most n : ℕ) → n ≤ most → n < 10 ^ 20 → decimal_of most (numeral n) ≡ Is n
+pub decimal_numeral : (most n : ℕ) → n ≤ most → n < 10 ^ 20 → decimal_of most (numeral n) ≡ Some n
 unfolding numeral up_to
 decimal_numeral most n l h =
     let p = places_holds 19 n h in

@@ -1,14 +1,18 @@
 -- the parts of a text, as loops over it meet them
 use mathlib.Core.Path.{◌≡◌, refl, sym, ap, ◌∙◌}
-use mathlib.Core.Bool.{Bool, true, false, cond, ◌&&◌, and-eq-true_iff, false≢true}
+use mathlib.Core.Bool.{Bool, true, false, cond, and-eq-true_iff, false≢true}
 use mathlib.Core.List.{List, [], ◌∷◌}
 use Prim.Native.Nat.{ℕ, zero, suc, ◌+◌, ◌-◌, ◌≤◌, ◌<◌}
 use native.Mathlib.Omega.{arith}
-use native.Mathlib.Numerals.{add-one, unary_clauses}
-use borrow.Author.Tests.{eq-eqb, ne_eqb, eqb-true}
-use lib.Dec.{eqb}
-use lib.ListN.{length, take, drop, get_or, length-drop, drop_of_length-le}
-use lib.Seq.{take_all, drop-cons, drop-drop}
+use native.Mathlib.Numerals.{unary_clauses}
+use borrow.Author.Tests.{eq-eqb, ne_eqb, eqb-true, ltb-true, ltb-false}
+use Rattle.std.specs.Prelude.{Some, None}
+use Rattle.std.specs.List.{position, count_by}
+use Rattle.std.proofs.lemmas.List.Sums.{sum_by-cons}
+use lib.Dec.{eqb, ltb}
+use lib.ListN.{length, take, drop, get_or, length-drop}
+use lib.Seq.{take_all, take-take, length-take-le}
+use Rattle.std.proofs.Common.{get_or-take}
 use Rattle.text.specs.Bytes.{index_of}
 use Rattle.text.specs.Parts.{after, rest, parts, front, kept, same_text}
 
@@ -16,17 +20,22 @@ use Rattle.text.specs.Parts.{after, rest, parts, front, kept, same_text}
 pub lent : (s : List ℕ) (a : ℕ) → take (length s - a) (drop a s) ≡ drop a s
 lent s a = take_all (length s - a) (drop a s) (rw length-drop (omega arith))
 
--- ---- after
+-- ---- what stands before and after the first b
 
-pub after_at : (b : ℕ) (s : List ℕ) (from k : ℕ) → k ≡ index_of b (drop from s) → drop (from + k + 1) s ≡ after b (drop from s)
-after_at b s from k e = rw (add-one, ← e) (ap (λ (n : ℕ). drop n s) (eq from k) ∙ sym (drop-drop (suc k) from s))
-  where
-    eq : (from k : ℕ) → suc (from + k) ≡ from + suc k
-    eq from k = omega arith
+module _ (b : ℕ) (s : List ℕ) where
+  pub found_in : (k : ℕ) → position (λ x. eqb x b) s ≡ Some k → (index_of b s ≡ k) × (k < length s)
+  found_in k e = go (ltb (index_of b s) (length s)) refl e
+    where
+      go : (q : Bool) → ltb (index_of b s) (length s) ≡ q → cond q (Some (index_of b s)) None ≡ Some k → (index_of b s ≡ k) × (k < length s)
+      go true p h = let i : index_of b s ≡ k = cc in (i, omega (arith, ltb-true _ _ p))
+      go false p h = let z : ◌≡◌ {A = ℕ} 0 1 = cc in absurd (omega arith)
 
-pub after_none : (b : ℕ) (s : List ℕ) (from k : ℕ) → k ≡ index_of b (drop from s) → length s ≤ from + k → drop (length s) s ≡ after b (drop from s)
-after_none b s from k e h =
-    drop_of_length-le s {i = length s} (omega arith) ∙ sym (rw (← e) (drop_of_length-le (drop from s) {i = suc k} (rw length-drop (omega arith))))
+  pub found_none : position (λ x. eqb x b) s ≡ None → length s ≤ index_of b s
+  found_none e = go (ltb (index_of b s) (length s)) refl e
+    where
+      go : (q : Bool) → ltb (index_of b s) (length s) ≡ q → cond q (Some (index_of b s)) None ≡ None → length s ≤ index_of b s
+      go true p h = let z : ◌≡◌ {A = ℕ} 0 1 = cc in absurd (omega arith)
+      go false p h = ltb-false _ _ p
 
 -- ---- rest
 
@@ -42,18 +51,14 @@ rest_here b (suc i) s h = absurd (omega arith)
 
 -- ---- parts
 
-module _ (b : ℕ) (s : List ℕ) (i : ℕ) (h : i < length s) where
-  pub parts_same : get_or s i 0 ≡ b → parts b (drop i s) ≡ suc (parts b (drop (i + 1) s))
-  unfolding parts
-  parts_same e = rw (drop-cons s i 0 h, eq-eqb (get_or s i 0) b e, add-one)
-
-  pub parts_other : (get_or s i 0 ≡ b → ⊥) → parts b (drop i s) ≡ parts b (drop (i + 1) s)
-  unfolding parts
-  parts_other e = rw (drop-cons s i 0 h, ne_eqb (get_or s i 0) b e, add-one)
-
-pub parts_end : (b : ℕ) (s : List ℕ) (i : ℕ) → length s ≤ i → parts b (drop i s) ≡ 1
+pub parts_counted : (b : ℕ) (s : List ℕ) → 1 + count_by (λ x. eqb x b) s ≡ parts b s
 unfolding parts
-parts_end b s i h = rw (drop_of_length-le s h)
+parts_counted b [] = refl
+parts_counted b (x ∷ s) = ap (λ (n : ℕ). 1 + n) (sum_by-cons (λ y. cond (eqb y b) 1 0) x s) ∙ go (eqb x b) (parts_counted b s)
+  where
+    go : (q : Bool) → 1 + count_by (λ y. eqb y b) s ≡ parts b s → 1 + (cond q 1 0 + count_by (λ y. eqb y b) s) ≡ cond q (suc (parts b s)) (parts b s)
+    go true e = omega (arith, e)
+    go false e = omega (arith, e)
 
 -- ---- front
 
@@ -85,36 +90,25 @@ module _ (b : ℕ) (s : List ℕ) where
   kept_other zero h e = absurd (omega arith)
   kept_other (suc n) h e = rw (ne_eqb (get_or s n 0) b (simp unary_clauses at e))
 
+  -- the last byte of the front of s, and the front without it
+  module _ (t : List ℕ) (e : t ≡ take (length t) s) (h : 1 ≤ length t) where
+    last_at : get_or s (length t - 1) 0 ≡ get_or t (length t - 1) 0
+    last_at = sym (ap (λ (l : List ℕ). get_or l (length t - 1) 0) e ∙ get_or-take (length t) s (length t - 1) 0 (omega arith))
+
+    pub last_other : (get_or t (length t - 1) 0 ≡ b → ⊥) → length t ≡ kept b s (length t)
+    last_other g = sym (kept_other (length t) (omega arith) (rw last_at g))
+
+    pub last_same : get_or t (length t - 1) 0 ≡ b → (kept b s (length (take (length t - 1) t)) ≡ kept b s (length t)) × (take (length t - 1) t ≡ take (length (take (length t - 1) t)) s)
+    last_same g =
+        let n : length (take (length t - 1) t) ≡ length t - 1 = length-take-le (length t - 1) t (omega arith) in
+        rw n (sym (kept_same (length t) (omega arith) (last_at ∙ g)), ap (take (length t - 1)) e ∙ take-take (length t - 1) (length t) s (omega arith))
+
   pub kept_end : (n : ℕ) → n ≤ 0 → kept b s n ≡ 0
   unfolding kept
   kept_end zero h = refl
   kept_end (suc n) h = absurd (omega arith)
 
 -- ---- same_text
-
-pub same_lengths : (s t : List ℕ) → (length s ≡ length t → ⊥) → false ≡ same_text s t
-unfolding same_text
-same_lengths [] [] h = absurd (h refl)
-same_lengths [] (y ∷ t) h = refl
-same_lengths (x ∷ s) [] h = refl
-same_lengths (x ∷ s) (y ∷ t) h = go (eqb x y) (same_lengths s t (λ e. h (ap suc e)))
-  where
-    go : (b : Bool) → false ≡ same_text s t → false ≡ (b && same_text s t)
-    go true e = e
-    go false e = refl
-
-module _ (s t : List ℕ) (i : ℕ) (h : i < length s) (k : i < length t) where
-  pub same_next : get_or s i 0 ≡ get_or t i 0 → same_text (drop (i + 1) s) (drop (i + 1) t) ≡ same_text (drop i s) (drop i t)
-  unfolding same_text
-  same_next e = rw (add-one, drop-cons s i 0 h, drop-cons t i 0 k, eq-eqb (get_or s i 0) (get_or t i 0) e)
-
-  pub same_other : (get_or s i 0 ≡ get_or t i 0 → ⊥) → false ≡ same_text (drop i s) (drop i t)
-  unfolding same_text
-  same_other e = rw (drop-cons s i 0 h, drop-cons t i 0 k, ne_eqb (get_or s i 0) (get_or t i 0) e)
-
-pub same_end : (s t : List ℕ) (i : ℕ) → length s ≤ i → length t ≤ i → true ≡ same_text (drop i s) (drop i t)
-unfolding same_text
-same_end s t i h k = rw (drop_of_length-le s h, drop_of_length-le t k)
 
 -- the same exactly where they are equal
 pub same_refl : (s : List ℕ) → same_text s s ≡ true

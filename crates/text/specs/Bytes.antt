@@ -1,12 +1,7 @@
 -- where a byte stands in a text
-use Rattle.std.specs.Prelude.{ℕ, suc, Bool, true, false, List, [], ◌∷◌, ◌==◌}
-
--- one further, unless it was found
-unfoldable pub index_after : Bool → ℕ → ℕ
-index_after true n = 0
-index_after false n = suc n
+use Rattle.std.specs.Prelude.{ℕ, List, ◌==◌}
+use Rattle.std.specs.List.{position_or_len}
 
 -- the index of the first b, or the length
-unfoldable pub index_of : ℕ → List ℕ → ℕ
-index_of b [] = 0
-index_of b (x ∷ s) = index_after (x == b) (index_of b s)
+abbrev pub index_of : ℕ → List ℕ → ℕ
+index_of b s = position_or_len (λ x. x == b) s

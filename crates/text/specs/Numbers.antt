@@ -1,16 +1,11 @@
 -- decimal numbers as text
-use Rattle.std.specs.Prelude.{ℕ, zero, suc, ◌+◌, ◌-◌, ◌*◌, ◌/◌, Bool, true, false, ◌&&◌, List, [], ◌∷◌, ℤ, pos, negsuc, if◌then◌else◌, nat_le, nat_lt, ◌==◌}
+use Rattle.std.specs.Prelude.{ℕ, zero, suc, ◌+◌, ◌-◌, ◌*◌, ◌/◌, Bool, true, ◌&&◌, List, [], ◌∷◌, Option, None, Some, ℤ, pos, negsuc, neg_ℤ, option_map, if◌then◌else◌, nat_le, nat_lt, ◌==◌}
+use Rattle.std.specs.Char.{is_ascii_digit}
 use Rattle.io.specs.Digits.{last_digits}
-use Rattle.text.specs.declared.numbers.Number.{Number}
-use Rattle.text.specs.declared.numbers.Number.TheVariants.{Is, Nothing}
-use Rattle.text.specs.declared.numbers.Number32.{Number32}
-use Rattle.text.specs.declared.numbers.Number32.TheVariants as Word
-use Rattle.text.specs.declared.numbers.Number16.{Number16}
-use Rattle.text.specs.declared.numbers.Number16.TheVariants as Half
 
--- 48 is the byte of the digit 0, and 57 that of 9
+-- a digit's value is its byte less 48
 unfoldable pub is_digit : ℕ → Bool
-is_digit b = nat_le 48 b && nat_le b 57
+is_digit b = is_ascii_digit b
 
 unfoldable pub all_digits : List ℕ → Bool
 all_digits [] = true
@@ -22,12 +17,12 @@ value v [] = v
 value v (b ∷ s) = value (v * 10 + (b - 48)) s
 
 -- the number, where s is digits of a value not past most
-unfoldable pub up_to : ℕ → ℕ → List ℕ → Number
-up_to most v s = if all_digits s && nat_le (value v s) most then Is (value v s) else Nothing
+unfoldable pub up_to : ℕ → ℕ → List ℕ → Option ℕ
+up_to most v s = if all_digits s && nat_le (value v s) most then Some (value v s) else None
 
 -- the number that s says: an empty text says none
-unfoldable pub decimal_of : ℕ → List ℕ → Number
-decimal_of most [] = Nothing
+unfoldable pub decimal_of : ℕ → List ℕ → Option ℕ
+decimal_of most [] = None
 decimal_of most (b ∷ s) = up_to most 0 (b ∷ s)
 
 -- how many digits n has, where they are at most k + 1
@@ -44,21 +39,34 @@ unfoldable pub int_text : ℤ → List ℕ
 int_text (pos n) = numeral n
 int_text (negsuc n) = 45 ∷ numeral (suc n)
 
--- the numbers from -(most + 1) to most stand by their two's complement bits: -n is 2 * (most + 1) - n
-unfoldable pub negated : ℕ → Number → Number
-negated most Nothing = Nothing
-negated most (Is n) = Is (if n == 0 then 0 else 2 * (most + 1) - n)
+-- a number below zero, from its distance
+abbrev pub negated : Option ℕ → Option ℤ
+negated None = None
+negated (Some n) = Some (neg_ℤ (pos n))
 
--- the bits of the number that s says, a minus sign (45) in front or not
-unfoldable pub signed_of : ℕ → List ℕ → Number
-signed_of most [] = Nothing
-signed_of most (b ∷ s) = if b == 45 then negated most (decimal_of (most + 1) s) else decimal_of most (b ∷ s)
+-- the number from -(most + 1) to most that s says, a minus sign (45) in front or not
+unfoldable pub int_of : ℕ → List ℕ → Option ℤ
+int_of most [] = None
+int_of most (b ∷ s) = if b == 45 then negated (decimal_of (most + 1) s) else option_map pos (decimal_of most (b ∷ s))
 
--- a number that fits 32 bits, 16 bits
-unfoldable pub fit32 : Number → Number32
-fit32 Nothing = Word.Nothing
-fit32 (Is n) = if nat_le n 4294967295 then Word.Is n else Word.Nothing
+-- the two's complement bits of a number from -(most + 1) to most
+abbrev pub bits_of : ℕ → Option ℤ → Option ℕ
+bits_of most None = None
+bits_of most (Some (pos n)) = Some n
+bits_of most (Some (negsuc n)) = Some (2 * (most + 1) - suc n)
 
-unfoldable pub fit16 : Number → Number16
-fit16 Nothing = Half.Nothing
-fit16 (Is n) = if nat_le n 65535 then Half.Is n else Half.Nothing
+-- the bits of the number that s says
+abbrev pub signed_of : ℕ → List ℕ → Option ℕ
+signed_of most s = bits_of most (int_of most s)
+
+-- the number, where it is not past most
+unfoldable pub fit : ℕ → Option ℕ → Option ℕ
+fit most None = None
+fit most (Some n) = if nat_le n most then Some n else None
+
+-- where it fits 32 bits, 16 bits
+abbrev pub fit32 : Option ℕ → Option ℕ
+fit32 = fit 4294967295
+
+abbrev pub fit16 : Option ℕ → Option ℕ
+fit16 = fit 65535

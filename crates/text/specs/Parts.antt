@@ -1,5 +1,6 @@
 -- a text cut at a byte b: what stands before the first b, what after it, and the part between two
-use Rattle.std.specs.Prelude.{ℕ, zero, suc, Bool, true, false, ◌&&◌, List, [], ◌∷◌, length, take, drop, if◌then◌else◌, slice_index, ◌==◌}
+use Rattle.std.specs.Prelude.{ℕ, zero, suc, Bool, List, [], ◌∷◌, length, take, drop, if◌then◌else◌, slice_index, ◌==◌}
+use Rattle.std.specs.Str.{bytes_eq}
 use Rattle.text.specs.Bytes.{index_of}
 
 -- all of it, where there is no b
@@ -40,7 +41,4 @@ trimmed b s = front b (take (kept b s (length s)) s)
 
 -- whether two texts are the same
 unfoldable pub same_text : List ℕ → List ℕ → Bool
-same_text [] [] = true
-same_text [] (y ∷ t) = false
-same_text (x ∷ s) [] = false
-same_text (x ∷ s) (y ∷ t) = x == y && same_text s t
+same_text s t = bytes_eq s t

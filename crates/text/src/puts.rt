@@ -1,11 +1,8 @@
 // Bytes and numbers put into a lent buffer at a place, as many as fit. The answer is the place after them: just past the buffer's end where they did not fit
 // whole, and nothing fits there, so a row of puts is one put of all their bytes (`puts_then`).
-ghost use Rattle.std.specs.Prelude.{◌≡◌, nat_abs};
 ghost use Rattle.io.specs.Digits.{last_digits};
 ghost use Rattle.text.specs.Numbers.{numeral, int_text};
 ghost use Rattle.text.specs.Puts.{Puts};
-
-use crate::numbers::wide;
 
 pub fn put(out: &mut [u8], at: usize, w: &[u8]) -> usize
     ensures { Puts at w.now out.old result out.new }
@@ -33,28 +30,12 @@ pub fn put_decimal(out: &mut [u8], at: usize, n: u64) -> usize
     put(out, at, &text[..k])
 }
 
-// How far from zero.
-fn size(n: i32) -> u64
-    ensures { result ≡ nat_abs n }
-{
-    let bits = wide(n.cast_unsigned());
-    if bits < 2147483648 {
-        bits
-    } else {
-        4294967296 - bits
-    }
-}
-
 // The number's digits, with a minus sign where it is below zero.
 pub fn put_signed(out: &mut [u8], at: usize, n: i32) -> usize
     ensures { Puts at (int_text n) out.old result out.new }
 {
-    if n < 0 {
-        let at = put(out, at, b"-");
-        put_decimal(out, at, size(n))
-    } else {
-        put_decimal(out, at, size(n))
-    }
+    let at = if n < 0 { put(out, at, b"-") } else { at };
+    put_decimal(out, at, u64::from(n.unsigned_abs()))
 }
 
 // Sixteen digits, in lower case.

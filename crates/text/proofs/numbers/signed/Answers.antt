@@ -1,29 +1,35 @@
-use Rattle.text.proofs.NumbersLaws.{decimal_most, signed_empty, signed_minus, signed_plus}
-use Rattle.text.proofs.PartsLaws.{lent}
-use Rattle.text.specs.Numbers.{negated}
-use mathlib.Core.Path.{sym, ◌∙◌}
-use native.Mathlib.Omega.{arith}
+use Rattle.text.proofs.NumbersLaws.{decimal_most, signed_minus, signed_plus, wide_fits, wide_is, minus_fits, minus_is}
+use Rattle.std.proofs.Common.{sym, ap, arith, None, Some, ◌∙◌}
 use Rattle.text.proofs.numbers.signed.Goals as goal
 
-pub returns-then-s-eq0 : goal.returns-then-s-eq0
-returns-then-s-eq0 c = signed_empty _ _ c.if-s-eq0.true
+pub returns-in_err-n : goal.returns-in_err-n
+returns-in_err-n c = let a = c.args in let p = c.in-Some.ensures.cases in
+    let e = rw (c.from.ensures, p.1) at c.decimal.ensures in
+    c.from_residual.ensures ∙ signed_minus a.most a.s.now None p.0 (sym e ∙ c.in_err-n.was)
 
-pub negative-requires : goal.negative-requires
-negative-requires c = let a = c.args in
-    let e = rw (c.wide.ensures.0, lent a.s.now 1) at c.decimal.ensures in
-    decimal_most _ _ _ (sym e ∙ c.in-Is.is)
+pub overflow_cast-result : goal.overflow_cast-result
+overflow_cast-result c = let m = decimal_most _ _ _ (sym (rw c.from.ensures at c.decimal.ensures) ∙ c.in_ok-n.was) in wide_fits c.in_ok-n.n (omega (arith, m, c.ranges.most.fits))
 
-pub returns-in-Is : goal.returns-in-Is
-unfolding negated
-returns-in-Is c = let a = c.args in
-    let e = rw (c.wide.ensures.0, lent a.s.now 1) at c.decimal.ensures in
-    rw c.negative.ensures (signed_minus a.most a.s.now _ (omega arith) c.if-s-eq45.true (sym e ∙ c.in-Is.is))
+pub overflow_sub-result : goal.overflow_sub-result
+overflow_sub-result c = let m = decimal_most _ _ _ (sym (rw c.from.ensures at c.decimal.ensures) ∙ c.in_ok-n.was) in minus_fits c.in_ok-n.n (omega (arith, m, c.ranges.most.fits))
 
-pub returns-in-Nothing : goal.returns-in-Nothing
-unfolding negated
-returns-in-Nothing c = let a = c.args in
-    let e = rw (c.wide.ensures.0, lent a.s.now 1) at c.decimal.ensures in
-    signed_minus a.most a.s.now _ (omega arith) c.if-s-eq45.true (sym e ∙ c.in-Nothing.is)
+pub returns-in_ok-n : goal.returns-in_ok-n
+returns-in_ok-n c = let a = c.args in let p = c.in-Some.ensures.cases in
+    let e = sym (rw (c.from.ensures, p.1) at c.decimal.ensures) ∙ c.in_ok-n.was in
+    let m = decimal_most _ _ _ e in
+    ap Some (minus_is c.in_ok-n.n (omega (arith, m, c.ranges.most.fits))) ∙ signed_minus a.most a.s.now (Some c.in_ok-n.n) p.0 e
 
-pub returns-else-s-eq45 : goal.returns-else-s-eq45
-returns-else-s-eq45 c = let a = c.args in c.decimal-else-s-eq45.ensures ∙ rw c.wide-else-s-eq45.ensures.0 (signed_plus a.most a.s.now (omega arith) c.if-s-eq45.false)
+pub returns-in_err-n-2 : goal.returns-in_err-n-2
+returns-in_err-n-2 c = let a = c.args in
+    let e = sym (rw c.from-in_default.ensures at c.decimal-in_default.ensures) ∙ c.in_err-n-2.was in
+    c.from_residual-in_err-n-2.ensures ∙ signed_plus a.most a.s.now None c.in_default.ensures.cases e
+
+pub overflow_cast-result-in_default : goal.overflow_cast-result-in_default
+overflow_cast-result-in_default c =
+    let m = decimal_most _ _ _ (sym (rw c.from-in_default.ensures at c.decimal-in_default.ensures) ∙ c.in_ok-n-2.was) in wide_fits c.in_ok-n-2.n (omega (arith, m, c.ranges.most.fits))
+
+pub returns-in_ok-n-2 : goal.returns-in_ok-n-2
+returns-in_ok-n-2 c = let a = c.args in
+    let e = sym (rw c.from-in_default.ensures at c.decimal-in_default.ensures) ∙ c.in_ok-n-2.was in
+    let m = decimal_most _ _ _ e in
+    ap Some (wide_is c.in_ok-n-2.n (omega (arith, m, c.ranges.most.fits))) ∙ signed_plus a.most a.s.now (Some c.in_ok-n-2.n) c.in_default.ensures.cases e

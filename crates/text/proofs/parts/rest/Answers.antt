@@ -1,14 +1,11 @@
-use Rattle.text.proofs.PartsLaws.{lent, rest_next, rest_here}
-use native.Mathlib.Omega.{arith}
-use mathlib.Core.Path.{◌∙◌}
-use Prim.Native.Nat.{◌-◌}
+use Rattle.std.proofs.Common.{◌≡◌, ◌∙◌, ◌+◌, ◌-◌, arith}
+use Rattle.text.proofs.PartsLaws.{rest_next, rest_here}
 use Rattle.text.proofs.parts.rest.Goals as goal
 
-pub loop-left-preserved : goal.loop-left-preserved
-loop-left-preserved c = let l = c.loop-left in let a = c.args in (c.next-from.ensures.1, rw c.next-from.ensures.0 (rest_next a.b l.left _ (omega arith)) ∙ l.invariant.1)
+pub loop-preserved : goal.loop-preserved
+loop-preserved c = let l = c.loop in let a = c.args in
+    let e : a.i - (l.counter + 1) ≡ a.i - l.counter - 1 = omega arith in
+    rw (e, c.after-rest.ensures, rest_next a.b (a.i - l.counter) l.rest.now (omega arith)) l.invariant
 
 pub returns : goal.returns
-returns c =
-    let l = c.loop-left in
-    let a = c.args in
-    lent a.s.now l.from ∙ rest_here a.b l.left _ (omega arith) ∙ l.invariant.1
+returns c = let l = c.loop in let a = c.args in rest_here a.b (a.i - l.counter) l.rest.now (omega arith) ∙ l.invariant

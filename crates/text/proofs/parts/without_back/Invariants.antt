@@ -1,11 +1,9 @@
+use Rattle.std.proofs.Common.{◌≡◌, length, take}
 use Rattle.text.specs.Parts.{kept}
-use lib.ListN.{length}
-use mathlib.Core.Path.{◌≡◌}
-use Prim.Native.Nat.{◌-◌, ◌≤◌}
 use Rattle.text.proofs.parts.without_back.Given as goal
 
-abbrev pub invariant-loop-n : goal.invariant-loop-n
-invariant-loop-n l = (l.n ≤ length l.s) × (kept l.b l.s l.n ≡ kept l.b l.s (length l.s))
+abbrev pub invariant-loop-text : goal.invariant-loop-text
+invariant-loop-text l = (kept l.b l.s (length l.text) ≡ kept l.b l.s (length l.s)) × (l.text ≡ take (length l.text) l.s)
 
-abbrev pub decreases-loop-n : goal.decreases-loop-n
-decreases-loop-n l = l.n
+abbrev pub decreases-loop-text : goal.decreases-loop-text
+decreases-loop-text l = length l.text

@@ -1,14 +1,12 @@
 use Rattle.text.proofs.PartsLaws.{lent, front_same, front_other, front_end}
-use native.Mathlib.Omega.{arith}
-use mathlib.Core.Path.{◌∙◌}
-use Prim.Native.Nat.{◌-◌}
+use Rattle.std.proofs.Common.{◌∙◌, arith}
 use Rattle.text.proofs.parts.without_front.Goals as goal
 
-pub returns-then-t-b : goal.returns-then-t-b
-returns-then-t-b c = let l = c.loop-t in front_other _ l.t.now (omega arith) c.if-t-b.true ∙ l.invariant
+pub returns-then-first-b : goal.returns-then-first-b
+returns-then-first-b c = let l = c.loop-text in front_other _ l.text.now (omega arith) c.if-first-b.true ∙ l.invariant
 
-pub loop-t-preserved : goal.loop-t-preserved
-loop-t-preserved c = let l = c.loop-t in rw (lent l.t.now 1) (front_same _ l.t.now (omega arith) c.if-t-b.false ∙ l.invariant)
+pub returns-in_default : goal.returns-in_default
+returns-in_default c = let l = c.loop-text in front_end _ l.text.now (omega arith) ∙ l.invariant
 
-pub returns : goal.returns
-returns c = let l = c.loop-t in front_end _ l.t.now (omega arith) ∙ l.invariant
+pub loop-text-preserved : goal.loop-text-preserved
+loop-text-preserved c = let l = c.loop-text in rw (lent l.text.now 1) (front_same _ l.text.now (omega arith) c.if-first-b.false ∙ l.invariant)

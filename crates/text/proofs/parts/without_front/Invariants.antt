@@ -1,11 +1,9 @@
+use Rattle.std.proofs.Common.{◌≡◌, length}
 use Rattle.text.specs.Parts.{front}
-use lib.ListN.{length}
-use mathlib.Core.Path.{◌≡◌}
-use Prim.Native.Nat.{◌-◌}
 use Rattle.text.proofs.parts.without_front.Given as goal
 
-abbrev pub invariant-loop-t : goal.invariant-loop-t
-invariant-loop-t l = front l.b l.t ≡ front l.b l.s
+abbrev pub invariant-loop-text : goal.invariant-loop-text
+invariant-loop-text l = front l.b l.text ≡ front l.b l.s
 
-abbrev pub decreases-loop-t : goal.decreases-loop-t
-decreases-loop-t l = length l.t
+abbrev pub decreases-loop-text : goal.decreases-loop-text
+decreases-loop-text l = length l.text

@@ -1,8 +1,5 @@
 use Rattle.text.proofs.PutsLaws.{placed_past, placed_fits, written_past, part_cut, part_fits}
-use Prim.Native.Nat.{◌-◌}
-use lib.ListN.{length}
 use native.Mathlib.Omega.{arith}
-use lib.Seq.{length-take-le}
 use Rattle.text.proofs.puts.put.Goals as goal
 
 pub returns-then-room-at : goal.returns-then-room-at
