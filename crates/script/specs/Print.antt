@@ -1,10 +1,9 @@
 -- The fields of an answer as text, each with a blank (32) in front, and its lines, each with its end (10) (docs/SCRIPT.md). Text is bytes.
-use Rattle.std.specs.Prelude.{ℕ, Bool, List, [], ◌∷◌, ◌++◌, if◌then◌else◌, ◌==◌}
+use Rattle.std.specs.Prelude.{ℕ, Bool, List, [], ◌∷◌, ◌++◌, None, Some, if◌then◌else◌, ◌==◌}
 use Rattle.text.specs.Ascii.{ascii}
 use Rattle.text.specs.Numbers.{numeral, int_text}
 use Rattle.span.specs.declared.ids.Id.{Id}
 use Rattle.span.specs.Maybe.{OptId}
-use Rattle.std.specs.Prelude as OptId
 use Rattle.span.specs.declared.status.Status.{Status}
 use Rattle.span.specs.Maybe.{OptStatus}
 use Rattle.span.specs.declared.span.FugueSpan.{FugueSpan}
@@ -30,8 +29,8 @@ unfoldable pub id_text : Id → List ℕ
 id_text i = (32 ∷ peer_text i.peer) ++ ascii "." ++ int_text i.counter
 
 unfoldable pub opt_id_text : OptId → List ℕ
-opt_id_text OptId.None = ascii " -"
-opt_id_text (OptId.Some i) = id_text i
+opt_id_text None = ascii " -"
+opt_id_text (Some i) = id_text i
 
 abbrev pub future_text : Bool → List ℕ
 future_text f = if f then ascii " future:" else ascii " now:"
@@ -41,8 +40,8 @@ unfoldable pub status_text : Status → List ℕ
 status_text s = future_text s.future ++ int_text s.delete_times
 
 unfoldable pub opt_status_text : OptStatus → List ℕ
-opt_status_text OptId.None = ascii " -"
-opt_status_text (OptId.Some s) = status_text s
+opt_status_text None = ascii " -"
+opt_status_text (Some s) = status_text s
 
 -- a name and a number
 unfoldable pub named_text : List ℕ → ℕ → List ℕ

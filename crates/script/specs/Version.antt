@@ -1,9 +1,8 @@
 -- A version or context as a word (docs/SCRIPT.md): `-` where it is empty, else pairs PEER:COUNT with commas (44) between, in the order written.
-use Rattle.std.specs.Prelude.{ℕ, zero, suc, Bool, true, false, ◌&&◌, List, if◌then◌else◌}
+use Rattle.std.specs.Prelude.{ℕ, zero, suc, Bool, true, false, ◌&&◌, List, Option, None, Some, if◌then◌else◌}
 use Rattle.text.specs.Ascii.{ascii}
 use Rattle.text.specs.Parts.{before, after, part, parts, same_text}
-use Rattle.script.specs.declared.field.IdField.{IdField}
-use Rattle.script.specs.declared.field.IdField.TheVariants.{Is, Bad}
+use Rattle.span.specs.declared.ids.Id.{Id}
 use Rattle.script.specs.Field.{id_from}
 
 -- how many pairs the word has
@@ -11,12 +10,12 @@ unfoldable pub pair_count : List ℕ → ℕ
 pair_count w = if same_text w (ascii "-") then 0 else parts 44 w
 
 -- pair i, a peer and an i32 with a colon (58) between: the count stands as the counter of an id
-unfoldable pub pair_of : List ℕ → ℕ → IdField
+unfoldable pub pair_of : List ℕ → ℕ → Option Id
 pair_of w i = id_from (before 58 (part 44 i w)) (after 58 (part 44 i w))
 
-abbrev pub is_id : IdField → Bool
-is_id Bad = false
-is_id (Is i) = true
+abbrev pub is_id : Option Id → Bool
+is_id None = false
+is_id (Some i) = true
 
 -- whether each of the n pairs from pair i on is one
 unfoldable pub pairs_from : List ℕ → ℕ → ℕ → Bool

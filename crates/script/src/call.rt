@@ -1,14 +1,14 @@
 // A line as a call: which it is, and its fields. Contexts and versions stay words of the line: an enum holds no list.
 ghost use Rattle.std.specs.Prelude.{◌≡◌};
-ghost use Rattle.script.specs.Call.{insert_by, insert_from, insert_call, delete_by, delete_from, deleting_of, arriving_by, arriving_of, set_word, update_by, updating_of, ins_of, del_of, two_versions, on_versions, row_by, row_of, alone_of, numbered_of, pair_call, several_of, call_of};
+ghost use Rattle.script.specs.Call.{insert_from, insert_call, delete_from, deleting_of, arriving_of, set_word, updating_of, ins_of, del_of, two_versions, on_versions, row_of, alone_of, numbered_of, pair_call, several_of, call_of};
 
-use crate::field::{ChangeField, ChunkField, FlagField, IdField, SpanField, word};
+use crate::field::word;
 use crate::{field, version};
 use span::chunk::RichtextChunk;
 use span::ids::Id;
 use span::span::FugueSpan;
-use text::numbers::Number32;
-use text::parts::{rest, same};
+use text::parts::rest;
+use units::change::SetFuture;
 
 // Of `insert` and `ins`.
 #[derive(Clone, Copy)]
@@ -26,13 +26,6 @@ pub struct Delete {
     pub len: u32,
     pub start: Id,
     pub reversed: bool,
-}
-
-#[derive(Clone, Copy)]
-pub enum SetFuture {
-    Keep,
-    Now,
-    Future,
 }
 
 // The ids from..to, of one peer.
@@ -95,242 +88,131 @@ pub enum Call {
     Rope(RopeCall),
     History(HistoryCall),
     Look(Look),
-    // No call.
-    Bad,
-}
-
-#[derive(Clone, Copy)]
-pub enum InsertField {
-    Is(Insert),
-    Bad,
-}
-
-#[derive(Clone, Copy)]
-pub enum DeleteField {
-    Is(Delete),
-    Bad,
-}
-
-#[derive(Clone, Copy)]
-pub enum SetField {
-    Is(SetFuture),
-    Bad,
-}
-
-// The fields of an insert, where each is one.
-fn insert_by(pos: Number32, id: IdField, lamport: Number32, content: ChunkField) -> InsertField
-    ensures { result ≡ insert_by pos id lamport content }
-{
-    let Number32::Is(pos) = pos else {
-        return InsertField::Bad;
-    };
-    let IdField::Is(id) = id else {
-        return InsertField::Bad;
-    };
-    let Number32::Is(lamport) = lamport else {
-        return InsertField::Bad;
-    };
-    let ChunkField::Is(content) = content else {
-        return InsertField::Bad;
-    };
-    InsertField::Is(Insert {
-        pos: pos,
-        id: id,
-        lamport: lamport,
-        content: content,
-    })
 }
 
 // POS PEER COUNTER LAMPORT CHUNK
-fn insert_from(t: &[u8]) -> InsertField
+fn insert_from(t: &[u8]) -> Option<Insert>
     ensures { result ≡ insert_from t.now }
 {
-    insert_by(
-        field::number(word(t, 0)),
-        field::id_of(word(t, 1), word(t, 2)),
-        field::number(word(t, 3)),
-        field::chunk(rest(t, b' ', 4)),
-    )
-}
-
-// An insert into a rope, or one that arrives at a history.
-fn inserting(t: &[u8], arrives: bool) -> Call
-    ensures { result ≡ insert_call arrives (insert_from t.now) }
-{
-    let InsertField::Is(x) = insert_from(t) else {
-        return Call::Bad;
-    };
-    if arrives {
-        Call::History(HistoryCall::Insert(x))
-    } else {
-        Call::Rope(RopeCall::Insert(x))
-    }
-}
-
-// The fields of a delete, where each is one.
-fn delete_by(pos: Number32, len: Number32, start: IdField, reversed: FlagField) -> DeleteField
-    ensures { result ≡ delete_by pos len start reversed }
-{
-    let Number32::Is(pos) = pos else {
-        return DeleteField::Bad;
-    };
-    let Number32::Is(len) = len else {
-        return DeleteField::Bad;
-    };
-    let IdField::Is(start) = start else {
-        return DeleteField::Bad;
-    };
-    let FlagField::Is(reversed) = reversed else {
-        return DeleteField::Bad;
-    };
-    DeleteField::Is(Delete {
-        pos: pos,
-        len: len,
-        start: start,
-        reversed: reversed,
+    let pos = field::number(word(t, 0))?;
+    let id = field::id_of(word(t, 1), word(t, 2))?;
+    let lamport = field::number(word(t, 3))?;
+    let content = field::chunk(rest(t, b' ', 4))?;
+    Some(Insert {
+        pos,
+        id,
+        lamport,
+        content,
     })
 }
 
+// An insert into a rope, or one that arrives at a history.
+fn inserting(t: &[u8], arrives: bool) -> Option<Call>
+    ensures { result ≡ insert_call arrives (insert_from t.now) }
+{
+    let insert = insert_from(t)?;
+    if arrives {
+        Some(Call::History(HistoryCall::Insert(insert)))
+    } else {
+        Some(Call::Rope(RopeCall::Insert(insert)))
+    }
+}
+
 // POS LEN at the start of t, TPEER TCOUNTER REV at that of u.
-fn delete_from(t: &[u8], u: &[u8]) -> DeleteField
+fn delete_from(t: &[u8], u: &[u8]) -> Option<Delete>
     ensures { result ≡ delete_from t.now u.now }
 {
-    delete_by(
-        field::number(word(t, 0)),
-        field::number(word(t, 1)),
-        field::id_of(word(u, 0), word(u, 1)),
-        field::flag(word(u, 2)),
-    )
+    let pos = field::number(word(t, 0))?;
+    let len = field::number(word(t, 1))?;
+    let start = field::id_of(word(u, 0), word(u, 1))?;
+    let reversed = field::flag(word(u, 2))?;
+    Some(Delete {
+        pos,
+        len,
+        start,
+        reversed,
+    })
 }
 
 // POS LEN TPEER TCOUNTER REV
-fn deleting(t: &[u8]) -> Call
+fn deleting(t: &[u8]) -> Option<Call>
     ensures { result ≡ deleting_of t.now }
 {
     if field::words(t) != 5 {
-        return Call::Bad;
+        return None;
     }
-    match delete_from(t, rest(t, b' ', 2)) {
-        DeleteField::Is(x) => Call::Rope(RopeCall::Delete(x)),
-        DeleteField::Bad => Call::Bad,
-    }
-}
-
-// An edit's id and its delete, where each is one.
-fn arriving_by(id: IdField, delete: DeleteField) -> Call
-    ensures { result ≡ arriving_by id delete }
-{
-    let IdField::Is(id) = id else {
-        return Call::Bad;
-    };
-    let DeleteField::Is(delete) = delete else {
-        return Call::Bad;
-    };
-    Call::History(HistoryCall::Delete(Arriving {
-        id: id,
-        delete: delete,
-    }))
+    let delete = delete_from(t, rest(t, b' ', 2))?;
+    Some(Call::Rope(RopeCall::Delete(delete)))
 }
 
 // POS LEN PEER COUNTER TPEER TCOUNTER REV
-fn arrives(t: &[u8]) -> Call
+fn arrives(t: &[u8]) -> Option<Call>
     ensures { result ≡ arriving_of t.now }
 {
     if field::words(t) != 7 {
-        return Call::Bad;
+        return None;
     }
-    arriving_by(
-        field::id_of(word(t, 2), word(t, 3)),
-        delete_from(t, rest(t, b' ', 4)),
-    )
+    let id = field::id_of(word(t, 2), word(t, 3))?;
+    let delete = delete_from(t, rest(t, b' ', 4))?;
+    Some(Call::History(HistoryCall::Delete(Arriving { id, delete })))
 }
 
 // future, now or keep
-fn set_future(w: &[u8]) -> SetField
+fn set_future(w: &[u8]) -> Option<SetFuture>
     ensures { result ≡ set_word w.now }
 {
-    if same(w, b"future") {
-        return SetField::Is(SetFuture::Future);
+    if w == b"future".as_slice() {
+        Some(SetFuture::Future)
+    } else if w == b"now".as_slice() {
+        Some(SetFuture::Now)
+    } else if w == b"keep".as_slice() {
+        Some(SetFuture::Keep)
+    } else {
+        None
     }
-    if same(w, b"now") {
-        return SetField::Is(SetFuture::Now);
-    }
-    if same(w, b"keep") {
-        return SetField::Is(SetFuture::Keep);
-    }
-    SetField::Bad
-}
-
-// The fields of an update, where each is one.
-fn update_by(
-    from: IdField,
-    to: IdField,
-    future: SetField,
-    change: ChangeField,
-    on_diff: FlagField,
-) -> Call
-    ensures { result ≡ update_by from to future change on_diff }
-{
-    let IdField::Is(from) = from else {
-        return Call::Bad;
-    };
-    let IdField::Is(to) = to else {
-        return Call::Bad;
-    };
-    let SetField::Is(future) = future else {
-        return Call::Bad;
-    };
-    let ChangeField::Is(change) = change else {
-        return Call::Bad;
-    };
-    let FlagField::Is(on_diff) = on_diff else {
-        return Call::Bad;
-    };
-    Call::Rope(RopeCall::Update(Update {
-        from: from,
-        to: to,
-        future: future,
-        change: change,
-        on_diff: on_diff,
-    }))
 }
 
 // PEER FROM TO future|now|keep CHANGE DIFF
-fn updating(t: &[u8]) -> Call
+fn updating(t: &[u8]) -> Option<Call>
     ensures { result ≡ updating_of t.now }
 {
     if field::words(t) != 6 {
-        return Call::Bad;
+        return None;
     }
     let peer = word(t, 0);
-    update_by(
-        field::id_of(peer, word(t, 1)),
-        field::id_of(peer, word(t, 2)),
-        set_future(word(t, 3)),
-        field::change(word(t, 4)),
-        field::flag(word(t, 5)),
-    )
+    let from = field::id_of(peer, word(t, 1))?;
+    let to = field::id_of(peer, word(t, 2))?;
+    let future = set_future(word(t, 3))?;
+    let change = field::change(word(t, 4))?;
+    let on_diff = field::flag(word(t, 5))?;
+    Some(Call::Rope(RopeCall::Update(Update {
+        from,
+        to,
+        future,
+        change,
+        on_diff,
+    })))
 }
 
 // CTX POS PEER COUNTER LAMPORT CHUNK
-fn ins(t: &[u8]) -> Call
+fn ins(t: &[u8]) -> Option<Call>
     ensures { result ≡ ins_of t.now }
 {
     if version::is_version(word(t, 0)) {
         inserting(rest(t, b' ', 1), true)
     } else {
-        Call::Bad
+        None
     }
 }
 
 // CTX POS LEN PEER COUNTER TPEER TCOUNTER REV
-fn del(t: &[u8]) -> Call
+fn del(t: &[u8]) -> Option<Call>
     ensures { result ≡ del_of t.now }
 {
     if version::is_version(word(t, 0)) {
         arrives(rest(t, b' ', 1))
     } else {
-        Call::Bad
+        None
     }
 }
 
@@ -338,157 +220,117 @@ fn del(t: &[u8]) -> Call
 fn two_versions(t: &[u8]) -> bool
     ensures { result ≡ two_versions t.now }
 {
-    if field::words(t) != 2 {
-        return false;
-    }
-    if version::is_version(word(t, 0)) {
-        version::is_version(word(t, 1))
-    } else {
-        false
-    }
+    field::words(t) == 2 && version::is_version(word(t, 0)) && version::is_version(word(t, 1))
 }
 
 // The call, where the versions that it names are some.
-fn on_versions(are: bool, c: HistoryCall) -> Call
+fn on_versions(are: bool, c: HistoryCall) -> Option<Call>
     ensures { result ≡ on_versions are c }
 {
-    if are { Call::History(c) } else { Call::Bad }
-}
-
-// A row's number and its span, where each is one.
-fn row_by(i: Number32, x: SpanField) -> Call
-    ensures { result ≡ row_by i x }
-{
-    let Number32::Is(i) = i else {
-        return Call::Bad;
-    };
-    let SpanField::Is(x) = x else {
-        return Call::Bad;
-    };
-    Call::Look(Look::Row(i, x))
+    if are { Some(Call::History(c)) } else { None }
 }
 
 // I SPAN
-fn row(t: &[u8]) -> Call
+fn row(t: &[u8]) -> Option<Call>
     ensures { result ≡ row_of t.now }
 {
-    row_by(field::number(word(t, 0)), field::span(rest(t, b' ', 1)))
+    let i = field::number(word(t, 0))?;
+    let span = field::span(rest(t, b' ', 1))?;
+    Some(Call::Look(Look::Row(i, span)))
 }
 
 // A line of one word.
-fn alone(name: &[u8]) -> Call
+fn alone(name: &[u8]) -> Option<Call>
     ensures { result ≡ alone_of name.now }
 {
-    if same(name, b"empty") {
-        return Call::Empty;
+    if name == b"empty".as_slice() {
+        Some(Call::Empty)
+    } else if name == b"clear".as_slice() {
+        Some(Call::Rope(RopeCall::Clear))
+    } else if name == b"diff".as_slice() {
+        Some(Call::Rope(RopeCall::Diff))
+    } else if name == b"len".as_slice() {
+        Some(Call::Look(Look::Len))
+    } else if name == b"dump".as_slice() {
+        Some(Call::Look(Look::Dump))
+    } else if name == b"spans".as_slice() {
+        Some(Call::Look(Look::Spans))
+    } else if name == b"visible".as_slice() {
+        Some(Call::Look(Look::Visible))
+    } else if name == b"sum".as_slice() {
+        Some(Call::Look(Look::Sum))
+    } else {
+        None
     }
-    if same(name, b"clear") {
-        return Call::Rope(RopeCall::Clear);
-    }
-    if same(name, b"diff") {
-        return Call::Rope(RopeCall::Diff);
-    }
-    if same(name, b"len") {
-        return Call::Look(Look::Len);
-    }
-    if same(name, b"dump") {
-        return Call::Look(Look::Dump);
-    }
-    if same(name, b"spans") {
-        return Call::Look(Look::Spans);
-    }
-    if same(name, b"visible") {
-        return Call::Look(Look::Visible);
-    }
-    if same(name, b"sum") {
-        return Call::Look(Look::Sum);
-    }
-    Call::Bad
 }
 
 // A line of a name and a number.
-fn numbered(name: &[u8], n: u32) -> Call
+fn numbered(name: &[u8], n: u32) -> Option<Call>
     ensures { result ≡ numbered_of name.now n }
 {
-    if same(name, b"room") {
-        return Call::Room(n);
+    if name == b"room".as_slice() {
+        Some(Call::Room(n))
+    } else if name == b"targets".as_slice() {
+        Some(Call::Targets(n))
+    } else if name == b"out".as_slice() {
+        Some(Call::Out(n))
+    } else if name == b"placeholder".as_slice() {
+        Some(Call::Placeholder(n))
+    } else if name == b"new".as_slice() {
+        Some(Call::New(n))
+    } else if name == b"at".as_slice() {
+        Some(Call::Look(Look::At(n)))
+    } else if name == b"rows".as_slice() {
+        Some(Call::Look(Look::Rows(n)))
+    } else {
+        None
     }
-    if same(name, b"targets") {
-        return Call::Targets(n);
-    }
-    if same(name, b"out") {
-        return Call::Out(n);
-    }
-    if same(name, b"placeholder") {
-        return Call::Placeholder(n);
-    }
-    if same(name, b"new") {
-        return Call::New(n);
-    }
-    if same(name, b"at") {
-        return Call::Look(Look::At(n));
-    }
-    if same(name, b"rows") {
-        return Call::Look(Look::Rows(n));
-    }
-    Call::Bad
 }
 
 // A line of two words.
-fn pair(name: &[u8], w: &[u8]) -> Call
+fn pair(name: &[u8], w: &[u8]) -> Option<Call>
     ensures { result ≡ pair_call name.now w.now }
 {
-    if same(name, b"checkout") {
-        return on_versions(version::is_version(w), HistoryCall::Checkout);
-    }
-    match field::number(w) {
-        Number32::Is(n) => numbered(name, n),
-        Number32::Nothing => Call::Bad,
+    if name == b"checkout".as_slice() {
+        on_versions(version::is_version(w), HistoryCall::Checkout)
+    } else {
+        numbered(name, field::number(w)?)
     }
 }
 
 // A line of more words, t those after the name.
-fn several(name: &[u8], t: &[u8]) -> Call
+fn several(name: &[u8], t: &[u8]) -> Option<Call>
     ensures { result ≡ several_of name.now t.now }
 {
-    if same(name, b"insert") {
-        return inserting(t, false);
+    if name == b"insert".as_slice() {
+        inserting(t, false)
+    } else if name == b"delete".as_slice() {
+        deleting(t)
+    } else if name == b"update".as_slice() {
+        updating(t)
+    } else if name == b"ins".as_slice() {
+        ins(t)
+    } else if name == b"del".as_slice() {
+        del(t)
+    } else if name == b"delta".as_slice() {
+        on_versions(two_versions(t), HistoryCall::Delta)
+    } else if name == b"applied".as_slice() {
+        on_versions(two_versions(t), HistoryCall::Applied)
+    } else if name == b"row".as_slice() {
+        row(t)
+    } else {
+        None
     }
-    if same(name, b"delete") {
-        return deleting(t);
-    }
-    if same(name, b"update") {
-        return updating(t);
-    }
-    if same(name, b"ins") {
-        return ins(t);
-    }
-    if same(name, b"del") {
-        return del(t);
-    }
-    if same(name, b"delta") {
-        return on_versions(two_versions(t), HistoryCall::Delta);
-    }
-    if same(name, b"applied") {
-        return on_versions(two_versions(t), HistoryCall::Applied);
-    }
-    if same(name, b"row") {
-        return row(t);
-    }
-    Call::Bad
 }
 
-// The call that a line says: a line with no comment and no blank at its ends.
-pub fn parse(line: &[u8]) -> Call
+// The call that a line says, if it says one: a line with no comment and no blank at its ends.
+pub fn parse(line: &[u8]) -> Option<Call>
     ensures { result ≡ call_of line.now }
 {
     let name = word(line, 0);
-    let n = field::words(line);
-    if n == 1 {
-        return alone(name);
+    match field::words(line) {
+        1 => alone(name),
+        2 => pair(name, word(line, 1)),
+        _ => several(name, rest(line, b' ', 1)),
     }
-    if n == 2 {
-        return pair(name, word(line, 1));
-    }
-    several(name, rest(line, b' ', 1))
 }

@@ -61,7 +61,7 @@ pub fn status(out: &mut [u8], at: usize, s: Status) -> usize
     ensures { Puts at (status_text s) out.old result out.new }
 {
     let at = future(out, at, s.future);
-    put_signed(out, at, s.delete_times as i32)
+    put_signed(out, at, i32::from(s.delete_times))
 }
 
 pub fn opt_status(out: &mut [u8], at: usize, d: Option<Status>) -> usize
@@ -78,7 +78,7 @@ fn named(out: &mut [u8], at: usize, name: &[u8], n: u32) -> usize
     ensures { Puts at (named_text name.now n) out.old result out.new }
 {
     let at = put(out, at, name);
-    number(out, at, n as u64)
+    number(out, at, u64::from(n))
 }
 
 // text A B, unknown N, start I, end I or move
@@ -88,7 +88,7 @@ pub fn chunk(out: &mut [u8], at: usize, c: RichtextChunk) -> usize
     match c.value() {
         RichtextChunkValue::Text { start, end } => {
             let at = named(out, at, b" text", start);
-            number(out, at, end as u64)
+            number(out, at, u64::from(end))
         }
         RichtextChunkValue::StyleAnchor { id, anchor_type } => match anchor_type {
             AnchorType::Start => named(out, at, b" start", id),
@@ -103,17 +103,13 @@ pub fn chunk(out: &mut [u8], at: usize, c: RichtextChunk) -> usize
 pub fn span(out: &mut [u8], at: usize, x: FugueSpan) -> usize
     ensures { Puts at (span_text x) out.old result out.new }
 {
-    let real = x.real_id;
-    let diff = x.diff_status;
-    let left = x.origin_left;
-    let right = x.origin_right;
     let at = id(out, at, x.id);
-    let at = number(out, at, x.lamport as u64);
-    let at = opt_id(out, at, real);
+    let at = number(out, at, u64::from(x.lamport));
+    let at = opt_id(out, at, x.real_id);
     let at = status(out, at, x.status);
-    let at = opt_status(out, at, diff);
-    let at = opt_id(out, at, left);
-    let at = opt_id(out, at, right);
+    let at = opt_status(out, at, x.diff_status);
+    let at = opt_id(out, at, x.origin_left);
+    let at = opt_id(out, at, x.origin_right);
     chunk(out, at, x.content)
 }
 
@@ -162,6 +158,6 @@ pub fn at_line(out: &mut [u8], at: usize, i: Id, left: u32) -> usize
 {
     let at = put(out, at, b"at");
     let at = id(out, at, i);
-    let at = number(out, at, left as u64);
+    let at = number(out, at, u64::from(left));
     put(out, at, b"\n")
 }

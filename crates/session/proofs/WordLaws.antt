@@ -5,18 +5,18 @@ use native.Mathlib.Numerals.{unary_clauses}
 use lib.ListN.{length-replicate}
 use Rattle.span.specs.Units.{tab}
 use Rattle.store.specs.Row.{bits32}
-use Rattle.script.specs.declared.field.IdField.{IdField}
-use Rattle.script.specs.declared.field.IdField.TheVariants.{Is, Bad}
+use Rattle.std.specs.Prelude.{None, Some}
+use Rattle.span.specs.Maybe.{OptId}
 use Rattle.script.specs.Version.{pair_count, pair_of, is_id, pairs_from, is_version}
 use Rattle.session.specs.Columns.{up_to32, peer_put, count_put, peers_put, counts_put, word_peers, word_counts}
 
-abbrev pub peer_in : IdField → ℕ
-peer_in Bad = 0
-peer_in (Is x) = x.peer
+abbrev pub peer_in : OptId → ℕ
+peer_in None = 0
+peer_in (Some x) = x.peer
 
-abbrev pub count_in : IdField → ℕ
-count_in Bad = 0
-count_in (Is x) = bits32 x.counter
+abbrev pub count_in : OptId → ℕ
+count_in None = 0
+count_in (Some x) = bits32 x.counter
 
 all_taken : (n : ℕ) → n ≤ 32 → up_to32 n ≡ n
 unfolding up_to32
@@ -31,9 +31,9 @@ module _ (w : List ℕ) where
   unfolding peer_put
   peer_set i s h e = go (pair_of w i) e
     where
-      go : (x : IdField) → is_id x ≡ true → peer_put x i s ≡ set s i (peer_in x)
-      go Bad q = absurd (false≢true q)
-      go (Is x) q = refl
+      go : (x : OptId) → is_id x ≡ true → peer_put x i s ≡ set s i (peer_in x)
+      go None q = absurd (false≢true q)
+      go (Some x) q = refl
 
   peer_front : (i n : ℕ) (s : List ℕ) → i + n ≤ length s → pairs_from w i n ≡ true → take (i + n) (peers_put w i n s) ≡ take i s ++ tab (λ (k : ℕ). peer_in (pair_of w k)) i n
   unfolding peers_put pairs_from tab
@@ -57,9 +57,9 @@ module _ (w : List ℕ) where
   unfolding count_put
   count_set i s h e = go (pair_of w i) e
     where
-      go : (x : IdField) → is_id x ≡ true → count_put x i s ≡ set s i (count_in x)
-      go Bad q = absurd (false≢true q)
-      go (Is x) q = refl
+      go : (x : OptId) → is_id x ≡ true → count_put x i s ≡ set s i (count_in x)
+      go None q = absurd (false≢true q)
+      go (Some x) q = refl
 
   count_front : (i n : ℕ) (s : List ℕ) → i + n ≤ length s → pairs_from w i n ≡ true → take (i + n) (counts_put w i n s) ≡ take i s ++ tab (λ (k : ℕ). count_in (pair_of w k)) i n
   unfolding counts_put pairs_from tab

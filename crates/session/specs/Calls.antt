@@ -6,10 +6,6 @@ use Rattle.rope.specs.Edits.{EditedIn}
 use Rattle.rope.specs.Deletions.{Deleted}
 use Rattle.std.specs.Prelude.{Ok}
 use Rattle.span.specs.Refusal.{refused}
-use Rattle.units.specs.declared.change.SetFuture as To
-use Rattle.units.specs.declared.change.SetFuture.TheVariants as Set
-use Rattle.script.specs.declared.call.SetFuture.{SetFuture}
-use Rattle.script.specs.declared.call.SetFuture.TheVariants as Word
 use Rattle.session.specs.Say.{Says}
 use Rattle.session.specs.Lines.{done_lines, refused_lines, pieces_lines}
 
@@ -26,9 +22,3 @@ delete_lines code out n = if code == 0 then pieces_lines out n else refused_line
 pub record DeleteSaid (code : ℕ) (l ps : List FugueSpan) (s o t p : List ℕ) (at : ℕ) (b : List ℕ) (r : ℕ) (u : List ℕ) : Type 0 where
   pub said : Says at (delete_lines code p (length ps)) b r u
   pub store : Deleted code l ps (answer Ok refused code (length ps)) s o t p
-
--- future, now or keep
-unfoldable pub set_of : SetFuture → To.SetFuture
-set_of Word.Keep = Set.Keep
-set_of Word.Now = Set.Now
-set_of Word.Future = Set.Future

@@ -1,8 +1,8 @@
 -- A version's word as two columns: its peers, and its counts by their bits
 use Rattle.std.specs.Prelude.{ℕ, zero, suc, List, take, replicate, nat_lt, slice_set, if◌then◌else◌}
 use Rattle.store.specs.Row.{bits32}
-use Rattle.script.specs.declared.field.IdField.{IdField}
-use Rattle.script.specs.declared.field.IdField.TheVariants.{Is, Bad}
+use Rattle.std.specs.Prelude.{None, Some}
+use Rattle.span.specs.Maybe.{OptId}
 use Rattle.script.specs.Version.{pair_count, pair_of}
 
 -- 32 at most: more than 16 pairs are refused, whatever they are
@@ -14,13 +14,13 @@ abbrev pub pairs_taken : List ℕ → ℕ
 pairs_taken w = up_to32 (pair_count w)
 
 -- a column with a pair's peer at place i, and one with its count
-unfoldable pub peer_put : IdField → ℕ → List ℕ → List ℕ
-peer_put Bad i s = s
-peer_put (Is x) i s = slice_set s i x.peer
+unfoldable pub peer_put : OptId → ℕ → List ℕ → List ℕ
+peer_put None i s = s
+peer_put (Some x) i s = slice_set s i x.peer
 
-unfoldable pub count_put : IdField → ℕ → List ℕ → List ℕ
-count_put Bad i s = s
-count_put (Is x) i s = slice_set s i (bits32 x.counter)
+unfoldable pub count_put : OptId → ℕ → List ℕ → List ℕ
+count_put None i s = s
+count_put (Some x) i s = slice_set s i (bits32 x.counter)
 
 -- with those of n pairs from pair i on
 unfoldable pub peers_put : List ℕ → ℕ → ℕ → List ℕ → List ℕ

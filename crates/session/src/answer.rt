@@ -200,7 +200,6 @@ fn on_call(
         Call::Rope(r) => on_rope(s, r, lent, output, text),
         Call::History(h) => on_history(s, h, said, lent, output, text),
         Call::Look(l) => on_any(s, l, lent, output, text),
-        Call::Bad => error(s, output, text),
     }
 }
 
@@ -220,5 +219,8 @@ pub fn line(
     if said.is_empty() {
         return s;
     }
-    on_call(s, parse(said), said, lent, output, text)
+    match parse(said) {
+        Some(call) => on_call(s, call, said, lent, output, text),
+        None => error(s, output, text),
+    }
 }

@@ -9,11 +9,11 @@ ghost use Rattle.rope.specs.Updated.{update_number, update_list};
 ghost use Rattle.rope.specs.Deletions.{delete_number, delete_list};
 ghost use Rattle.session.specs.Say.{Says};
 ghost use Rattle.session.specs.Lines.{piece_lines, pieces_lines};
-ghost use Rattle.session.specs.Calls.{EditSaid, DeleteSaid, set_of};
+ghost use Rattle.session.specs.Calls.{EditSaid, DeleteSaid};
 
 use crate::console::Output;
 use crate::{entries, reply};
-use script::call::{Delete, Insert, RopeCall, SetFuture, Update};
+use script::call::{Delete, Insert, RopeCall, Update};
 
 fn insert(x: Insert, s: &mut [u8], output: &mut Output, text: &mut [u8], at: usize) -> usize
     ensures { EditSaid (insert_number s.old x.pos (new_span x.id x.lamport x.content)) (insert_list s.old x.pos (new_span x.id x.lamport x.content)) s.old s.new at text.old result text.new }
@@ -67,26 +67,15 @@ fn delete(
     }
 }
 
-// The rope's word for the script's. Both are other crates' types, so that no `From` can stand here.
-fn future(set: SetFuture) -> units::change::SetFuture
-    ensures { result ≡ set_of set }
-{
-    match set {
-        SetFuture::Keep => units::change::SetFuture::Keep,
-        SetFuture::Now => units::change::SetFuture::Now,
-        SetFuture::Future => units::change::SetFuture::Future,
-    }
-}
-
 fn update(x: Update, s: &mut [u8], output: &mut Output, text: &mut [u8], at: usize) -> usize
-    ensures { EditSaid (update_number s.old x.from.peer x.from.counter x.to.counter (set_of x.future) x.change x.on_diff) (update_list s.old x.from.peer x.from.counter x.to.counter (set_of x.future) x.change x.on_diff) s.old s.new at text.old result text.new }
+    ensures { EditSaid (update_number s.old x.from.peer x.from.counter x.to.counter x.future x.change x.on_diff) (update_list s.old x.from.peer x.from.counter x.to.counter x.future x.change x.on_diff) s.old s.new at text.old result text.new }
 {
     let outcome = rope::update::update(
         s,
         x.from.peer,
         x.from.counter,
         x.to.counter,
-        future(x.future),
+        x.future,
         x.change,
         x.on_diff,
     );

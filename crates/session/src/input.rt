@@ -8,7 +8,7 @@ use crate::console::{Input, Output};
 use crate::lent::Lent;
 use crate::state::Session;
 use crate::{answer, reply};
-use text::parts::{before, find};
+use text::parts::before;
 
 // The bytes from..to of the buffer are read and not answered. `cut` says that the line that they belong to began before them.
 #[derive(Clone, Copy, Debug, PartialEq, Eq)]
@@ -67,7 +67,7 @@ fn has_line(bytes: &[u8], r: Reader) -> bool
     ensures { result ≡ has_line (held bytes.now r) }
 {
     let held = unread(bytes, r);
-    find(held, b'\n') < held.len()
+    before(held, b'\n').len() < held.len()
 }
 
 // Answers the first line.
@@ -82,10 +82,10 @@ fn next_line(
     ensures { (result.reader ≡ past_first bytes.now r) × (held bytes.now result.reader ≡ after 10 (held bytes.now r)) }
 {
     let held = unread(bytes, r);
-    let n = find(held, b'\n');
-    let session = answer::line(before(held, b'\n'), r.cut, s, lent, output, text);
+    let line = before(held, b'\n');
+    let session = answer::line(line, r.cut, s, lent, output, text);
     Turn {
-        reader: r.past(n),
+        reader: r.past(line.len()),
         session,
     }
 }

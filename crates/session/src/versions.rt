@@ -3,7 +3,6 @@ ghost use Rattle.std.specs.Prelude.{◌≡◌, slice_set};
 ghost use Rattle.script.specs.Version.{pair_of};
 ghost use Rattle.session.specs.Columns.{pairs_taken, peer_put, count_put, peers_put, counts_put, peers_in, counts_in};
 
-use script::field::IdField;
 use script::version::{pair, pairs};
 
 // The pairs taken of a word: more than 16 are refused, whatever they are.
@@ -21,7 +20,7 @@ fn put<T: Copy>(column: &mut [T], i: usize, x: T)
 fn put_pair(w: &[u8], i: usize, peers: &mut [u64], counts: &mut [u32])
     ensures { (peers.new ≡ peer_put (pair_of w.now i) i peers.old) × (counts.new ≡ count_put (pair_of w.now i) i counts.old) }
 {
-    if let IdField::Is(id) = pair(w, i) {
+    if let Some(id) = pair(w, i) {
         put(peers, i, id.peer);
         put(counts, i, store::counter_bits(id));
     }

@@ -70,7 +70,6 @@ parts_cut b [] w e = rw (eq-eqb b b refl)
 parts_cut b (x ∷ v) w e = let o = lacks_cons b x v e in rw o.here (parts_cut b v w o.later)
 
 pub same_lacks : (b : ℕ) (v t : List ℕ) → Lacks b v → same_text v (b ∷ t) ≡ false
-unfolding same_text
 same_lacks b [] t e = refl
 same_lacks b (x ∷ v) t e = rw (lacks_cons b x v e).here
 

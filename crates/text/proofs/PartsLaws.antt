@@ -112,12 +112,10 @@ module _ (b : ℕ) (s : List ℕ) where
 
 -- the same exactly where they are equal
 pub same_refl : (s : List ℕ) → same_text s s ≡ true
-unfolding same_text
 same_refl [] = refl
 same_refl (x ∷ s) = rw (eq-eqb x x refl) (same_refl s)
 
 pub same_equal : (s t : List ℕ) → same_text s t ≡ true → s ≡ t
-unfolding same_text
 same_equal [] [] e = refl
 same_equal [] (y ∷ t) e = absurd (false≢true e)
 same_equal (x ∷ s) [] e = absurd (false≢true e)

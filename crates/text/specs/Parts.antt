@@ -40,5 +40,5 @@ abbrev pub trimmed : ℕ → List ℕ → List ℕ
 trimmed b s = front b (take (kept b s (length s)) s)
 
 -- whether two texts are the same
-unfoldable pub same_text : List ℕ → List ℕ → Bool
+abbrev pub same_text : List ℕ → List ℕ → Bool
 same_text s t = bytes_eq s t
