@@ -13,11 +13,11 @@ use Rattle.span.specs.Units.{tab}
 use Rattle.span.proofs.AnswerLaws.{lower_zero, is_done, is_refused}
 use Rattle.rope.specs.Columns.{least}
 use Rattle.apply.specs.declared.item.Item.{Item}
-use Rattle.std.specs.Prelude.{Err, Ok as Done}
+use Rattle.std.specs.Prelude.{Ok, Err}
 use Rattle.std.specs.Result.{IsErrAnd}
 use Rattle.std.proofs.lemmas.Result.{err_from_is_err_and}
 use Rattle.span.specs.declared.refusal.Refusal.{Refusal}
-use Rattle.span.specs.Refusal.{number_of, refused as Refused}
+use Rattle.span.specs.Refusal.{number_of, refused}
 use Rattle.span.proofs.RefusalLaws.{number_not_zero, answer_err}
 use Rattle.apply.specs.Maybe.{ApplyAnswer}
 use Rattle.apply.specs.Apply.{Given, used, applied, apply_code}
@@ -113,14 +113,14 @@ module _ (o s : List ℕ) (es : List Given) where
 
 -- ---- answers
 
-pub called_done : (code n : ℕ) (new : List Item) (out t : List ℕ) → code ≡ 0 → n ≡ length new → t ≡ put 0 (items_bytes new) out → Called code new out (Done n) t
+pub called_done : (code n : ℕ) (new : List Item) (out t : List ℕ) → code ≡ 0 → n ≡ length new → t ≡ put 0 (items_bytes new) out → Called code new out (Ok n) t
 called_done code n new out t e q p =
-    record { said = is_done Done Refused code e q; left = p ∙ sym (ap (λ (k : ℕ). cond (eqb k 0) (put 0 (items_bytes new) out) out) e) }
+    record { said = is_done Ok refused code e q; left = p ∙ sym (ap (λ (k : ℕ). cond (eqb k 0) (put 0 (items_bytes new) out) out) e) }
 
-pub called_refused : (code k : ℕ) (new : List Item) (out : List ℕ) → (k ≡ 0 → ⊥) → k ≡ code → Called code new out (Refused k) out
+pub called_refused : (code k : ℕ) (new : List Item) (out : List ℕ) → (k ≡ 0 → ⊥) → k ≡ code → Called code new out (refused k) out
 called_refused code k new out z e =
     record {
-      said = is_refused Done Refused code k (length new) z e;
+      said = is_refused Ok refused code k (length new) z e;
       left = sym (ap (λ (t : Bool). cond t (put 0 (items_bytes new) out) out) (ne_eqb code 0 (λ w. z (e ∙ w))));
     }
 
@@ -150,7 +150,7 @@ module _ (k a b p c l old out : List ℕ) (n : ℕ) (least-is : n ≡ least (len
   new_is = ap (λ (es : List Given). applied es (items_in old)) all-givens
 
   pub delta_done : 0 ≡ apply_code (items_in out) all (items_in old) → (m : ℕ) (t : List ℕ) → (m ≡ length (applied all (items_in old))) × (t ≡ put 0 (items_bytes (applied all (items_in old))) out)
-      → Called (delta_code k a b p c l old out) (delta_items k a b p c l old) out (Done m) t
+      → Called (delta_code k a b p c l old out) (delta_items k a b p c l old) out (Ok m) t
   delta_done e m t w =
       called_done (delta_code k a b p c l old out) m (delta_items k a b p c l old) out t (sym (e ∙ code_is)) (w.0 ∙ ap length new_is) (w.1 ∙ ap (λ (x : List Item). put 0 (items_bytes x) out) new_is)
 

@@ -21,16 +21,13 @@ use Rattle.units.specs.Store.{count, spans_of, is_state}
 use Rattle.units.specs.declared.diff.Entry.{Entry}
 use Rattle.units.specs.Delta.{insertable, entries}
 use Rattle.rope.specs.declared.diff.EntryNumbers.{EntryNumbers}
-use Rattle.rope.specs.Maybe.{DiffAnswer}
-use Rattle.std.specs.Prelude.{Ok}
-use Rattle.span.specs.Refusal.{refused}
-use Rattle.rope.specs.Columns.{column, column_of, least, diff_rows_code, get_diff_code, Diffed, diff_number}
+use Rattle.rope.specs.Columns.{column, column_of, least, diff_rows_code, get_diff_code, Diffed}
 use Rattle.rope.proofs.States.{state_of, part_spans}
 use Rattle.rope.proofs.WellFormed.{formed_of}
 use Rattle.apply.specs.declared.item.Item.{Item}
 use Rattle.apply.specs.Maybe.{ApplyAnswer}
-use Rattle.std.specs.Prelude.{Ok as Done}
-use Rattle.span.specs.Refusal.{refused as Refused}
+use Rattle.std.specs.Prelude.{Ok}
+use Rattle.span.specs.Refusal.{refused}
 use Rattle.apply.specs.Apply.{Known, items, new_unit, applied, apply_code, used}
 use Rattle.apply.specs.Items.{items_in, items_bytes}
 use Rattle.apply.specs.Given.{givens}
@@ -55,7 +52,7 @@ pub record Calls (s k0 a0 b0 p0 c0 l0 old0 out0 : List ℕ) : Type 0 where
   pub diffed : Diffed (get_diff_code (least (length k0) (length a0) (length b0) (length p0) (length c0) (length l0)) s) (spans_of s) (Ok n) k0 a0 b0 p0 c0 l0 k a b p c l
   pub m : ℕ
   pub old : List ℕ
-  pub shown : Called (visible_code s old0) (shown_items (spans_of s)) old0 (Done m) old
+  pub shown : Called (visible_code s old0) (shown_items (spans_of s)) old0 (Ok m) old
   pub said : ApplyAnswer
   pub out : List ℕ
   pub new : Called (delta_code (take n k) (take n a) (take n b) (take n p) (take n c) (take n l) (take (m * 24) old) out0) (delta_items (take n k) (take n a) (take n b) (take n p) (take n c) (take n l) (take (m * 24) old)) out0 said out
@@ -74,7 +71,7 @@ calls s k0 a0 b0 p0 c0 l0 old0 out0 d w =
       diffed = record { said = is_done Ok refused _ d refl; kind = refl; first = refl; second = refl; peer = refl; counter = refl; lamport = refl };
       m = length (shown_items (spans_of s));
       old = _;
-      shown = record { said = is_done Done Refused _ w refl; left = refl };
+      shown = record { said = is_done Ok refused _ w refl; left = refl };
       said = _;
       out = _;
       new = record { said = refl; left = refl };
@@ -89,34 +86,14 @@ room_code new out = unless (leb (length new) (length (items_in out))) 13 0
 
 -- ---------------------------------------------------------------- what answers say
 
--- the number of an answer, and what it counts
-abbrev diff_count : DiffAnswer → ℕ
-diff_count (Ok n) = n
-diff_count (refused k) = 0
-
-abbrev items_number : ApplyAnswer → ℕ
-items_number (Done n) = 0
-items_number (Refused k) = k
-
-abbrev items_count : ApplyAnswer → ℕ
-items_count (Done n) = n
-items_count (Refused k) = 0
-
-diff_done : (code x n : ℕ) → Ok n ≡ answer Ok refused code x → (code ≡ 0) × (n ≡ x)
+-- a done answer has the code 0, and counts what was counted
+done_of : (code x n : ℕ) → Ok n ≡ answer Ok refused code x → (code ≡ 0) × (n ≡ x)
 unfolding answer
-diff_done code x n e = go (eqb code 0) refl e
+done_of code x n e = go (eqb code 0) refl e
   where
     go : (t : Bool) → eqb code 0 ≡ t → Ok n ≡ cond t (Ok x) (refused code) → (code ≡ 0) × (n ≡ x)
-    go true q w = (eqb-true code 0 q, ap diff_count w)
-    go false q w = absurd (eqb-false code 0 q (sym (ap diff_number w)))
-
-items_done : (code n : ℕ) (new : List Item) → Done n ≡ answer Done Refused code (length new) → (code ≡ 0) × (n ≡ length new)
-unfolding answer
-items_done code n new e = go (eqb code 0) refl e
-  where
-    go : (t : Bool) → eqb code 0 ≡ t → Done n ≡ cond t (Done (length new)) (Refused code) → (code ≡ 0) × (n ≡ length new)
-    go true q w = (eqb-true code 0 q, ap items_count w)
-    go false q w = absurd (eqb-false code 0 q (sym (ap items_number w)))
+    go true q w = (eqb-true code 0 q, cc)
+    go false q w = absurd (cc)
 
 left_done : (code : ℕ) (new : List Item) (s t : List ℕ) → code ≡ 0 → t ≡ kept code (put 0 (items_bytes new) s) s → t ≡ put 0 (items_bytes new) s
 left_done code new s t z e = e ∙ ap (λ (x : ℕ). cond (eqb x 0) (put 0 (items_bytes new) s) s) z
@@ -155,9 +132,9 @@ room_done : (new : List Item) (out : List ℕ) → length new ≤ length (items_
 unfolding room_code
 room_done new out h = ap (λ (t : Bool). cond t 0 13) (le-leb (length new) (length (items_in out)) h)
 
-answer_done : (code : ℕ) (new : List Item) → code ≡ 0 → answer Done Refused code (length new) ≡ Done (length new)
+answer_done : (code : ℕ) (new : List Item) → code ≡ 0 → answer Ok refused code (length new) ≡ Ok (length new)
 unfolding answer
-answer_done code new z = ap (λ (x : ℕ). cond (eqb x 0) (Done (length new)) (Refused x)) z
+answer_done code new z = ap (λ (x : ℕ). cond (eqb x 0) (Ok (length new)) (refused x)) z
 
 -- a unit at the other version is the same item
 new_good : (us : List FugueSpan) → AllGood us → AllGood (map new_unit us)
@@ -175,10 +152,10 @@ module _ (s k0 a0 b0 p0 c0 l0 old0 out0 : List ℕ) (v : Calls s k0 a0 b0 p0 c0 
   code = get_diff_code (least (length k0) (length a0) (length b0) (length p0) (length c0) (length l0)) s
 
   diff_said : (code ≡ 0) × (v.n ≡ length (entries spans))
-  diff_said = diff_done code (length (entries spans)) v.n v.diffed.said
+  diff_said = done_of code (length (entries spans)) v.n v.diffed.said
 
   shown_said : (visible_code s old0 ≡ 0) × (v.m ≡ length (shown_items spans))
-  shown_said = items_done (visible_code s old0) v.m (shown_items spans) v.shown.said
+  shown_said = done_of (visible_code s old0) (length (shown_items spans)) v.m v.shown.said
 
   each_ok : AllOk spans
   each_ok = rw (sym (part_spans s)) (formed_of _ (state_of s (diff_of _ s diff_said.0).0).stored.formed).each
@@ -226,7 +203,7 @@ module _ (s k0 a0 b0 p0 c0 l0 old0 out0 : List ℕ) (v : Calls s k0 a0 b0 p0 c0 
   unfolding new_items spans_of
   all_new = sound_units (map new_unit (expand spans)) (new_good (expand spans) (good_list spans each_ok (rows_fit (count s) (drop 72 s) (drop_bytes 72 s bytes))))
 
-  pub delta_read_back : length (new_items s) ≤ length (items_in out0) → (v.said ≡ Done (length (new_items s))) × (items_in (take (length (new_items s) * 24) v.out) ≡ new_items s)
+  pub delta_read_back : length (new_items s) ≤ length (items_in out0) → (v.said ≡ Ok (length (new_items s))) × (items_in (take (length (new_items s) * 24) v.out) ≡ new_items s)
   delta_read_back h =
       let z = room_done (new_items s) out0 h in
       let w = delta_through_calls in

@@ -58,9 +58,6 @@ module _ (f : ℕ → Given) (n : ℕ) where
   pub left_start : (left : ℕ) → used (tab f 0 n) ≤ left → used (tab f 0 (n - 0)) ≤ left
   left_start left h = rw (sym (tab_all f n)) h
 
-  pub new_start : (left free : ℕ) → leb (new_len (tab f 0 n) left) free ≡ leb (new_len (tab f 0 (n - 0)) left) free
-  new_start left free = ap (λ (l : List Given). leb (new_len l left) free) (tab_all f n)
-
 module _ (f : ℕ → Given) (n i : ℕ) where
   used_on : i < n → used (tab f i (n - i)) ≡ takes (f i) + used (tab f (i + 1) (n - (i + 1)))
   used_on h = ap used (tab_turn f n i h) ∙ used-cons (f i) (tab f (i + 1) (n - (i + 1)))

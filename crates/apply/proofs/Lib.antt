@@ -3,7 +3,6 @@ pub mod JoinApplies
 pub mod Tabs
 pub mod Lows
 pub mod Fits
-pub mod Said
 pub mod Coded
 pub mod Written
 pub mod Shown

@@ -19,7 +19,6 @@ use Rattle.span.specs.Units.{tab}
 use Rattle.units.specs.Maybe.{OptLamport}
 use Rattle.units.specs.declared.diff.Entry.TheVariants.{Retain, Delete, Insert}
 use Rattle.units.specs.Lists.{every}
-use Rattle.rope.specs.Columns.{Hold}
 use Rattle.apply.specs.declared.item.Item.{Item}
 use Rattle.apply.specs.Apply.{Given, Known, lamport_fits, item_formed, item_ids, item_single, entry_formed, entry_ids, entry_known, used, applied, apply_code}
 use Rattle.apply.specs.Given.{given_code, insert_code, len_code, item_code, lowest}
@@ -113,59 +112,8 @@ module _ {A : Type 0} (F : A → ℕ) (f : ℕ → A) (n : ℕ) where
 -- the steps of that loop
 pub ruleset low_steps = (low_start, low_next, low_end)
 
--- ---- by the tests' values
-
-pub item_by : (x : Item) (f r s : Bool) → formed x.content ≡ f → room_of x.id (len_of x.content) ≡ r → eqb (len_of x.content) 1 ≡ s → code_by f r s ≡ item_code x
-unfolding item_code item_formed item_ids item_single
-item_by x f r s p q e = rw (p, q, e)
-
-pub insert_by : (c : RichtextChunk) (i : Id) (l : OptLamport) (f r s : Bool) → formed c ≡ f → room_opt (OptI.Some i) (len_of c) ≡ r → lamport_fits l (len_of c) ≡ s → cond f (cond (r && s) 0 2) 1 ≡ insert_code c i l
-unfolding insert_code
-insert_by c i l f r s p q e = rw (p, q, e)
-
--- a Retain or Delete of length n, and an Insert
-not_code : (t : Bool) → ◌≡◌ {A = ℕ} (cond t 14 0) (cond (not t) 0 14)
-not_code true = refl
-not_code false = refl
-
-pub code_retain : (n : ℕ) → len_code n ≡ given_code (Known (Retain n))
-unfolding given_code entry_formed entry_ids entry_known
-code_retain n = not_code (eqb n 0)
-
-pub code_delete : (n : ℕ) → len_code n ≡ given_code (Known (Delete n))
-unfolding given_code entry_formed entry_ids entry_known
-code_delete n = not_code (eqb n 0)
+-- ---- one entry
 
 pub code_insert : (c : RichtextChunk) (i : Id) (l : OptLamport) → insert_code c i l ≡ given_code (Known (Insert c i l))
 unfolding given_code insert_code entry_formed entry_ids entry_known
 code_insert c i l = refl
-
--- ---- the lower of two
-
-module _ (x y : ℕ) where
-  pub lower_first : x ≡ 0 → y ≡ lower x y
-  lower_first z = lower_by x y true _ (eq-eqb x 0 z) refl
-
-  module _ (z : x ≡ 0 → ⊥) where
-    pub lower_left : y ≡ 0 → x ≡ lower x y
-    lower_left o = lower_by x y false true (ne_eqb x 0 z) (eq-eqb y 0 o)
-
-    module _ (o : y ≡ 0 → ⊥) where
-      pub lower_less : x < y → x ≡ lower x y
-      lower_less h = (let e : x ≡ min x y = omega arith in e) ∙ lower_by x y false false (ne_eqb x 0 z) (ne_eqb y 0 o)
-
-      pub lower_more : y ≤ x → y ≡ lower x y
-      lower_more h = (let e : y ≡ min x y = omega arith in e) ∙ lower_by x y false false (ne_eqb x 0 z) (ne_eqb y 0 o)
-
--- ---- places within the columns
-
-pub hold_at : (n i : ℕ) (k a b p c l : List ℕ) → i < n → Hold n k a b p c l → Hold (i + 1) k a b p c l
-hold_at n i k a b p c l h v =
-    record {
-      kind = omega (arith, v.kind);
-      first = omega (arith, v.first);
-      second = omega (arith, v.second);
-      peer = omega (arith, v.peer);
-      counter = omega (arith, v.counter);
-      lamport = omega (arith, v.lamport);
-    }

@@ -23,7 +23,7 @@ use Rattle.rope.proofs.Rights.{row_drop, row_ok, row_none}
 use Rattle.rope.proofs.WellFormed.{formed_of}
 use Rattle.rope.proofs.States.{part, part_spans}
 use Rattle.apply.specs.Maybe.{ApplyAnswer}
-use Rattle.std.specs.Prelude.{Err, Ok as Done}
+use Rattle.std.specs.Prelude.{Ok, Err}
 use Rattle.span.specs.declared.refusal.Refusal.TheVariants as Refuse
 use Rattle.apply.specs.Apply.{item_of, items}
 use Rattle.apply.specs.Items.{items_in, items_bytes}
@@ -121,7 +121,7 @@ module _ (spans : List FugueSpan) (out : List ℕ) where
     pub shown_fits : many ≤ length out / 24 → length (shown_items spans) * 24 ≤ length out
     shown_fits h = omega (arith, length-shown spans, e)
 
-    pub shown_done : many ≤ length out / 24 → (t : List ℕ) → t ≡ put 0 (items_bytes (shown_items spans)) out → Called (shown_code spans out) (shown_items spans) out (Done many) t
+    pub shown_done : many ≤ length out / 24 → (t : List ℕ) → t ≡ put 0 (items_bytes (shown_items spans)) out → Called (shown_code spans out) (shown_items spans) out (Ok many) t
     shown_done h t w =
         called_done (shown_code spans out) many (shown_items spans) out t
         (code_by true (le-leb (length (shown_items spans)) (length (items_in out)) (omega (arith, length_in out, length-shown spans, e)))) (e ∙ sym (length-shown spans)) w

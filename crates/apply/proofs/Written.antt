@@ -186,11 +186,6 @@ module _ (f : ℕ → Given) (n : ℕ) (o : List ℕ) (i at k : ℕ) (s0 s : Lis
     pub rest_count : k + (length o / 24 - at) ≡ length (applied (tab f 0 n) (items_in o))
     rest_count = ap (λ (m : ℕ). k + (m - at)) (sym (length_in o)) ∙ last_count f n (items_in o) i at k s0 s v h
 
-    pub rest_same : (s2 : List ℕ) → s2 ≡ put 0 (items_bytes (applied (tab f 0 n) (items_in o))) s0 → length s2 ≡ length s0
-    rest_same s2 w =
-        let b : length (items_bytes (applied (tab f 0 n) (items_in o))) ≡ length (applied (tab f 0 n) (items_in o)) * 24 = length_items (applied (tab f 0 n) (items_in o)) in
-        ap length w ∙ length-put s0 (items_bytes (applied (tab f 0 n) (items_in o))) 0 (omega arith) (omega (arith, b, v.count, v.is.room))
-
     pub rest_is : (s2 : List ℕ) → s2 ≡ put (k * 24) (items_bytes (take (length o / 24 - at) (drop at (items_in o)))) s → s2 ≡ put 0 (items_bytes (applied (tab f 0 n) (items_in o))) s0
     rest_is s2 w = last_is f n (items_in o) i at k s0 s v h s2 (w ∙ ap (λ (m : ℕ). put (k * 24) (items_bytes (take (m - at) (drop at (items_in o)))) s) (sym (length_in o)))
 

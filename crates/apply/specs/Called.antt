@@ -8,8 +8,8 @@ use Rattle.units.specs.Store.{spans_of, is_state}
 use Rattle.units.specs.Codes.{unless, kept}
 use Rattle.apply.specs.declared.item.Item.{Item}
 use Rattle.apply.specs.Maybe.{ApplyAnswer}
-use Rattle.std.specs.Prelude.{Ok as Done}
-use Rattle.span.specs.Refusal.{refused as Refused}
+use Rattle.std.specs.Prelude.{Ok}
+use Rattle.span.specs.Refusal.{refused}
 use Rattle.apply.specs.Apply.{Given, items, used, applied, apply_code}
 use Rattle.apply.specs.Items.{items_in, items_bytes}
 use Rattle.apply.specs.Given.{givens, given_code, lowest}
@@ -23,7 +23,7 @@ pub record Allowed (es : List Given) (old : List Item) (room : ℕ) : Type 0 whe
 -- a call with this number that writes these items: how many there are, or the number of the refusal; the output has them from its front on and keeps
 -- the rest, or if the call is refused is what it was
 pub record Called (code : ℕ) (new : List Item) (out : List ℕ) (r : ApplyAnswer) (out2 : List ℕ) : Type 0 where
-  pub said : r ≡ answer Done Refused code (length new)
+  pub said : r ≡ answer Ok refused code (length new)
   pub left : out2 ≡ kept code (put 0 (items_bytes new) out) out
 
 -- apply: the entries in the columns, on the items in old
