@@ -1,9 +1,16 @@
 // Questions to a store and the calls of a history, for the programs in tests/, which own the memory. Crate `bench_c` exports them.
 #![tactic(auto)]
 
-use rope::find::Found;
-use rope::query::{RealAnswer};
 use span::ids::Id;
+use span::refusal::{Refusal, code_of};
+
+// What is counted, times 256, or the number of the refusal.
+fn counted(answer: Result<usize, Refusal>) -> u64 {
+    match answer {
+        Ok(n) => (n as u64) << 8,
+        Err(refusal) => u64::from(refusal.number()),
+    }
+}
 
 #[unsafe(no_mangle)]
 pub extern "C" fn bench_check(s: &[u8]) -> bool {
@@ -12,19 +19,15 @@ pub extern "C" fn bench_check(s: &[u8]) -> bool {
 
 #[unsafe(no_mangle)]
 pub extern "C" fn bench_visible_len(s: &[u8]) -> u64 {
-    match rope::query::visible_len(s) {
-        Ok(n) => n as u64,
-        Err(_) => 0,
-    }
+    rope::query::visible_len(s).unwrap_or(0) as u64
 }
 
 // The units left in the span at a visible position.
 #[unsafe(no_mangle)]
 pub extern "C" fn bench_real_span_at(s: &[u8], pos: u32) -> u32 {
     match rope::query::active_real_span_at(s, pos) {
-        RealAnswer::At(_, left) => left,
-        RealAnswer::Nothing => 0,
-        RealAnswer::Refused(_) => 0,
+        Ok(Some((_, left))) => left,
+        Ok(None) | Err(_) => 0,
     }
 }
 
@@ -36,26 +39,26 @@ pub extern "C" fn bench_find(s: &[u8], peer: u64, counter: u16) -> usize {
     }
     let n = (s.len() - 72) / 72;
     let id = Id {
-        peer: peer,
-        counter: counter as i32,
+        peer,
+        counter: i32::from(counter),
     };
     match rope::find::find_elem(&s[72..], n, Some(id)) {
-        Found::At(i, _) => i,
-        Found::Nothing => n,
+        Some((i, _)) => i,
+        None => n,
     }
 }
 
 // Opens a history with a placeholder of n units: 0 or the number of the refusal.
 #[unsafe(no_mangle)]
 pub extern "C" fn bench_open_with(s: &mut [u8], t: &[u8], e: &mut [u8], n: u32) -> u8 {
-    tracker::open::open_with(s, t, e, n)
+    code_of(tracker::open::open_with(s, t, e, n))
 }
 
 // The edits in rows of 256 bytes arrive: how many were taken, times 256, plus the number of the refusal.
 #[unsafe(no_mangle)]
 pub extern "C" fn bench_arrive_all(s: &mut [u8], t: &mut [u8], e: &mut [u8], rows: &[u8]) -> u64 {
     let run = tracker::run::arrive_all(s, t, e, rows);
-    ((run.taken as u64) << 8) | (run.code as u64)
+    ((run.taken as u64) << 8) | u64::from(code_of(run.outcome))
 }
 
 // The edit whose head stands in a row arrives, its context in columns: 0 or the number of the refusal; 255 where the row is too short.
@@ -72,7 +75,7 @@ pub extern "C" fn bench_arrive(
         return 255;
     }
     let x = tracker::row::get_head(row);
-    tracker::arrive::arrive(s, t, e, x, peers, counts)
+    code_of(tracker::arrive::arrive(s, t, e, x, peers, counts))
 }
 
 // The list goes to a version: 0 or the number of the refusal.
@@ -84,31 +87,28 @@ pub extern "C" fn bench_checkout(
     peers: &[u64],
     counts: &[u32],
 ) -> u8 {
-    tracker::checkout::checkout(s, t, e, peers, counts)
+    code_of(tracker::checkout::checkout(s, t, e, peers, counts))
 }
 
 // Opens a history without a placeholder: 0 or the number of the refusal.
 #[unsafe(no_mangle)]
 pub extern "C" fn bench_open(s: &mut [u8], t: &[u8], e: &mut [u8]) -> u8 {
-    tracker::open::open(s, t, e)
+    code_of(tracker::open::open(s, t, e))
 }
 
 // The visible length of a history's list, times 256, or the number of the refusal.
 #[unsafe(no_mangle)]
 pub extern "C" fn bench_history_len(s: &[u8], t: &[u8], e: &[u8]) -> u64 {
-    match tracker::query::visible_len(s, t, e) {
-        Ok(n) => (n as u64) << 8,
-        Err(code) => code as u64,
-    }
+    counted(tracker::query::visible_len(s, t, e))
 }
 
 // The units left in the span at a visible position, times 256, or the number of the refusal; 255 for nothing.
 #[unsafe(no_mangle)]
 pub extern "C" fn bench_history_at(s: &[u8], t: &[u8], e: &[u8], pos: u32) -> u64 {
     match tracker::query::active_real_span_at(s, t, e, pos) {
-        RealAnswer::At(_, left) => (left as u64) << 8,
-        RealAnswer::Nothing => 255,
-        RealAnswer::Refused(code) => code as u64,
+        Ok(Some((_, left))) => u64::from(left) << 8,
+        Ok(None) => 255,
+        Err(refusal) => u64::from(refusal.number()),
     }
 }
 
@@ -129,7 +129,7 @@ pub extern "C" fn bench_delta(
     counter: &mut [u32],
     lamport: &mut [u32],
 ) -> u64 {
-    match tracker::delta::delta(
+    counted(tracker::delta::delta(
         s,
         t,
         e,
@@ -143,8 +143,5 @@ pub extern "C" fn bench_delta(
         peer,
         counter,
         lamport,
-    ) {
-        Ok(n) => (n as u64) << 8,
-        Err(code) => code as u64,
-    }
+    ))
 }
