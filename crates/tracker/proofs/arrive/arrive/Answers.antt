@@ -1,3 +1,4 @@
+use Rattle.span.specs.Refusal.{code_of}
 use Rattle.tracker.proofs.Longer.{arrive_whole}
 use Rattle.tracker.specs.Rows.{to_edit}
 use Rattle.tracker.specs.Entries.{version_of, Leaves, arrive_number, arrived}
@@ -18,5 +19,5 @@ returns c =
     let x = c.args in
     let f = c.arrive_row in
     let w = sym c.check.ensures ∙ not-false _ (ap not c.if-not-check.false) in
-    arrive_whole x.s.now x.t.now x.e.now w x.x x.peers.now x.counts.now f.result f.new.s f.new.t f.new.e
-    (subst (λ (q : Edit). Leaves (arrive_number x.s.now x.t.now x.e.now q) (arrived x.s.now x.t.now x.e.now q) f.result x.s.now x.t.now x.e.now f.new.s f.new.t f.new.e) c.put_edit.ensures f.ensures)
+    arrive_whole x.s.now x.t.now x.e.now w x.x x.peers.now x.counts.now _ f.new.s f.new.t f.new.e
+    (subst (λ (q : Edit). Leaves (arrive_number x.s.now x.t.now x.e.now q) (arrived x.s.now x.t.now x.e.now q) (code_of f.result) x.s.now x.t.now x.e.now f.new.s f.new.t f.new.e) c.put_edit.ensures f.ensures)

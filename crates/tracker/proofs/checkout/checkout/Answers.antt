@@ -15,4 +15,4 @@ returns c =
     let x = c.args in
     let y = c.put_version-m in
     let z = c.checkout_to in
-    checkout_short x.s.now x.t.now x.e.now (sym c.check.ensures ∙ not-false _ (ap not c.if-not-check.false)) x.peers.now x.counts.now (version_in y.result y.new.v) y.ensures.0 z.result z.new.s z.ensures
+    checkout_short x.s.now x.t.now x.e.now (sym c.check.ensures ∙ not-false _ (ap not c.if-not-check.false)) x.peers.now x.counts.now (version_in y.result y.new.v) y.ensures.0 _ z.new.s z.ensures

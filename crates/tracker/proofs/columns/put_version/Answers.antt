@@ -9,8 +9,9 @@ pub returns-then-m-gt-PEERS : goal.returns-then-m-gt-PEERS
 returns-then-m-gt-PEERS c =
     let a = c.args in
     elim c.then-m-gt-PEERS.branch [
-      then-m-gt-PEERS-via-then-m-gt-PEERS w ↦ (many_broken a.v.now a.peers.now a.counts.now w.if-m-gt-PEERS.true, omega arith)
-    | then-m-gt-PEERS-via-else-m-gt-PEERS+then-counts-m w ↦ (uneven_broken a.v.now a.peers.now a.counts.now w.if-counts-m.true, omega arith) ]
+      | then-m-gt-PEERS-via-then-m-gt-PEERS w ↦ (many_broken a.v.now a.peers.now a.counts.now w.if-m-gt-PEERS.true, omega arith)
+      | then-m-gt-PEERS-via-else-m-gt-PEERS+then-counts-m w ↦ (uneven_broken a.v.now a.peers.now a.counts.now w.if-counts-m.true, omega arith)
+    ]
 
 pub loop-i-init : goal.loop-i-init
 loop-i-init c = columned_none _ _ _

@@ -17,8 +17,9 @@ returns-then-n-gt-UNITS c =
     let a = c.args in
     opened_not (open_with_number a.n a.s.now a.e.now) a.n 10 a.s.now a.t.now a.e.now
     (elim c.then-n-gt-UNITS.branch [
-      then-n-gt-UNITS-via-then-n-gt-UNITS w ↦ many_units a.s.now a.e.now a.n w.if-n-gt-UNITS.true
-    | then-n-gt-UNITS-via-else-n-gt-UNITS+then-room-eq0 w ↦ no_room a.s.now a.e.now a.n c.if-n-eq0.false w.if-n-gt-UNITS.false (sym w.room.ensures ∙ w.if-room-eq0.true) ])
+      | then-n-gt-UNITS-via-then-n-gt-UNITS w ↦ many_units a.s.now a.e.now a.n w.if-n-gt-UNITS.true
+      | then-n-gt-UNITS-via-else-n-gt-UNITS+then-room-eq0 w ↦ no_room a.s.now a.e.now a.n c.if-n-eq0.false w.if-n-gt-UNITS.false (sym w.room.ensures ∙ w.if-room-eq0.true)
+    ])
     (λ z. omega arith)
 
 pub returns-then-e-lt-EDIT_BYTES : goal.returns-then-e-lt-EDIT_BYTES

@@ -41,10 +41,11 @@ returns-then-many-gt-UNITS c =
     let l : x.at ≤ shown us = omega (arith, c.if-shown_seen-at.false, c.shown_seen.ensures) in
     let k : x.h < 2000 = omega (arith, c.if-h-ge-EDITS.false) in
     elim c.then-many-gt-UNITS.branch [
-      then-many-gt-UNITS-via-then-many-gt-UNITS w ↦ insert_units_lem x.most x.h us x.at x.x l k (omega (arith, w.if-many-gt-UNITS.true, c.units.ensures, c.len_of.ensures.0, len))
-    | then-many-gt-UNITS-via-else-many-gt-UNITS+then-not-insert_in_rows w ↦
-        let m : length us + len_span x.x ≤ 65536 = omega (arith, w.if-many-gt-UNITS.false, c.units.ensures, c.len_of.ensures.0, len) in
-        sym (insert_rows x.most x.h us x.at x.x l k m false (sym w.insert_in_rows.ensures ∙ not-true _ (ap not w.if-not-insert_in_rows.true))) ]
+      | then-many-gt-UNITS-via-then-many-gt-UNITS w ↦ insert_units_lem x.most x.h us x.at x.x l k (omega (arith, w.if-many-gt-UNITS.true, c.units.ensures, c.len_of.ensures.0, len))
+      | then-many-gt-UNITS-via-else-many-gt-UNITS+then-not-insert_in_rows w ↦
+          let m : length us + len_span x.x ≤ 65536 = omega (arith, w.if-many-gt-UNITS.false, c.units.ensures, c.len_of.ensures.0, len) in
+          sym (insert_rows x.most x.h us x.at x.x l k m false (sym w.insert_in_rows.ensures ∙ not-true _ (ap not w.if-not-insert_in_rows.true)))
+    ]
 
 pub returns : goal.returns
 returns c =
