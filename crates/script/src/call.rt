@@ -91,6 +91,7 @@ pub enum Call {
 }
 
 // POS PEER COUNTER LAMPORT CHUNK
+#[tactic(auto, unfolding(crate::specs::Call::insert_from))]
 fn insert_from(t: &[u8]) -> Option<Insert>
     ensures { result ≡ insert_from t.now }
 {
@@ -119,6 +120,7 @@ fn inserting(t: &[u8], arrives: bool) -> Option<Call>
 }
 
 // POS LEN at the start of t, TPEER TCOUNTER REV at that of u.
+#[tactic(auto, unfolding(crate::specs::Call::delete_from))]
 fn delete_from(t: &[u8], u: &[u8]) -> Option<Delete>
     ensures { result ≡ delete_from t.now u.now }
 {
@@ -135,6 +137,7 @@ fn delete_from(t: &[u8], u: &[u8]) -> Option<Delete>
 }
 
 // POS LEN TPEER TCOUNTER REV
+#[tactic(auto, unfolding(crate::specs::Call::deleting_of))]
 fn deleting(t: &[u8]) -> Option<Call>
     ensures { result ≡ deleting_of t.now }
 {
@@ -146,6 +149,7 @@ fn deleting(t: &[u8]) -> Option<Call>
 }
 
 // POS LEN PEER COUNTER TPEER TCOUNTER REV
+#[tactic(auto, unfolding(crate::specs::Call::arriving_of))]
 fn arrives(t: &[u8]) -> Option<Call>
     ensures { result ≡ arriving_of t.now }
 {
@@ -158,6 +162,7 @@ fn arrives(t: &[u8]) -> Option<Call>
 }
 
 // future, now or keep
+#[tactic(auto, unfolding(crate::specs::Call::set_word))]
 fn set_future(w: &[u8]) -> Option<SetFuture>
     ensures { result ≡ set_word w.now }
 {
@@ -173,6 +178,7 @@ fn set_future(w: &[u8]) -> Option<SetFuture>
 }
 
 // PEER FROM TO future|now|keep CHANGE DIFF
+#[tactic(auto, unfolding(crate::specs::Call::updating_of))]
 fn updating(t: &[u8]) -> Option<Call>
     ensures { result ≡ updating_of t.now }
 {
@@ -195,6 +201,7 @@ fn updating(t: &[u8]) -> Option<Call>
 }
 
 // CTX POS PEER COUNTER LAMPORT CHUNK
+#[tactic(auto, unfolding(crate::specs::Call::ins_of))]
 fn ins(t: &[u8]) -> Option<Call>
     ensures { result ≡ ins_of t.now }
 {
@@ -206,6 +213,7 @@ fn ins(t: &[u8]) -> Option<Call>
 }
 
 // CTX POS LEN PEER COUNTER TPEER TCOUNTER REV
+#[tactic(auto, unfolding(crate::specs::Call::del_of))]
 fn del(t: &[u8]) -> Option<Call>
     ensures { result ≡ del_of t.now }
 {
@@ -217,6 +225,7 @@ fn del(t: &[u8]) -> Option<Call>
 }
 
 // Whether t is A B, two versions.
+#[tactic(auto, unfolding(crate::specs::Call::two_versions))]
 fn two_versions(t: &[u8]) -> bool
     ensures { result ≡ two_versions t.now }
 {
@@ -231,6 +240,7 @@ fn on_versions(are: bool, c: HistoryCall) -> Option<Call>
 }
 
 // I SPAN
+#[tactic(auto, unfolding(crate::specs::Call::row_of))]
 fn row(t: &[u8]) -> Option<Call>
     ensures { result ≡ row_of t.now }
 {
@@ -240,6 +250,7 @@ fn row(t: &[u8]) -> Option<Call>
 }
 
 // A line of one word.
+#[tactic(auto, unfolding(crate::specs::Call::alone_of))]
 fn alone(name: &[u8]) -> Option<Call>
     ensures { result ≡ alone_of name.now }
 {
@@ -265,6 +276,7 @@ fn alone(name: &[u8]) -> Option<Call>
 }
 
 // A line of a name and a number.
+#[tactic(auto, unfolding(crate::specs::Call::numbered_of))]
 fn numbered(name: &[u8], n: u32) -> Option<Call>
     ensures { result ≡ numbered_of name.now n }
 {
@@ -288,6 +300,7 @@ fn numbered(name: &[u8], n: u32) -> Option<Call>
 }
 
 // A line of two words.
+#[tactic(auto, unfolding(crate::specs::Call::pair_call))]
 fn pair(name: &[u8], w: &[u8]) -> Option<Call>
     ensures { result ≡ pair_call name.now w.now }
 {
@@ -299,6 +312,7 @@ fn pair(name: &[u8], w: &[u8]) -> Option<Call>
 }
 
 // A line of more words, t those after the name.
+#[tactic(auto, unfolding(crate::specs::Call::several_of))]
 fn several(name: &[u8], t: &[u8]) -> Option<Call>
     ensures { result ≡ several_of name.now t.now }
 {
@@ -324,6 +338,7 @@ fn several(name: &[u8], t: &[u8]) -> Option<Call>
 }
 
 // The call that a line says, if it says one: a line with no comment and no blank at its ends.
+#[tactic(auto, unfolding(crate::specs::Call::call_by))]
 pub fn parse(line: &[u8]) -> Option<Call>
     ensures { result ≡ call_of line.now }
 {

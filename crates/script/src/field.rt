@@ -25,6 +25,7 @@ pub fn words(line: &[u8]) -> usize
 }
 
 // A u32.
+#[tactic(auto, unfolding(text::specs::Numbers::fit))]
 pub fn number(w: &[u8]) -> Option<u32>
     ensures { result ≡ number_of w.now }
 {
@@ -32,6 +33,7 @@ pub fn number(w: &[u8]) -> Option<u32>
 }
 
 // A decimal u64, or `U` for the unknown peer.
+#[tactic(auto, unfolding(crate::specs::Field::peer_of))]
 pub fn peer(w: &[u8]) -> Option<u64>
     ensures { result ≡ peer_of w.now }
 {
@@ -50,6 +52,7 @@ fn counter(w: &[u8]) -> Option<i32>
 }
 
 // A peer with a counter from another word.
+#[tactic(auto, unfolding(crate::specs::Field::id_from))]
 pub fn id_of(p: &[u8], c: &[u8]) -> Option<Id>
     ensures { result ≡ id_from p.now c.now }
 {
@@ -66,6 +69,7 @@ pub fn id(w: &[u8]) -> Option<Id>
 }
 
 // An id, or `-` for none.
+#[tactic(auto, unfolding(crate::specs::Field::opt_word))]
 pub fn opt_id(w: &[u8]) -> Option<Option<Id>>
     ensures { result ≡ opt_word w.now }
 {
@@ -76,6 +80,7 @@ pub fn opt_id(w: &[u8]) -> Option<Option<Id>>
     }
 }
 
+#[tactic(auto, unfolding(crate::specs::Field::status_from))]
 fn status_of(future: bool, w: &[u8]) -> Option<Status>
     ensures { result ≡ status_from future w.now }
 {
@@ -87,6 +92,7 @@ fn status_of(future: bool, w: &[u8]) -> Option<Status>
 }
 
 // now:COUNT or future:COUNT
+#[tactic(auto, unfolding(crate::specs::Field::status_word))]
 pub fn status(w: &[u8]) -> Option<Status>
     ensures { result ≡ status_word w.now }
 {
@@ -102,6 +108,7 @@ pub fn status(w: &[u8]) -> Option<Status>
 }
 
 // A status, or `-` for none.
+#[tactic(auto, unfolding(crate::specs::Field::diff_word))]
 pub fn opt_status(w: &[u8]) -> Option<Option<Status>>
     ensures { result ≡ diff_word w.now }
 {
@@ -113,6 +120,7 @@ pub fn opt_status(w: &[u8]) -> Option<Option<Status>>
 }
 
 // An i16.
+#[tactic(auto, unfolding(crate::specs::Field::change_word))]
 pub fn change(w: &[u8]) -> Option<i16>
     ensures { result ≡ change_word w.now }
 {
@@ -120,6 +128,7 @@ pub fn change(w: &[u8]) -> Option<i16>
 }
 
 // 0 or 1, as they stand
+#[tactic(auto, unfolding(crate::specs::Field::flag_word))]
 pub fn flag(w: &[u8]) -> Option<bool>
     ensures { result ≡ flag_word w.now }
 {
@@ -133,6 +142,7 @@ pub fn flag(w: &[u8]) -> Option<bool>
 }
 
 // Any two numbers as a chunk.
+#[tactic(auto, unfolding(crate::specs::Field::raw_from))]
 pub fn raw(a: &[u8], b: &[u8]) -> Option<RichtextChunk>
     ensures { result ≡ raw_from a.now b.now }
 {
@@ -150,6 +160,7 @@ fn reserved(start: u32, w: &[u8]) -> Option<RichtextChunk>
 }
 
 // move
+#[tactic(auto, unfolding(crate::specs::Field::one_word))]
 fn one_word(name: &[u8]) -> Option<RichtextChunk>
     ensures { result ≡ one_word name.now }
 {
@@ -161,6 +172,7 @@ fn one_word(name: &[u8]) -> Option<RichtextChunk>
 }
 
 // unknown N, start I or end I
+#[tactic(auto, unfolding(crate::specs::Field::two_words))]
 fn two_words(name: &[u8], n: &[u8]) -> Option<RichtextChunk>
     ensures { result ≡ two_words name.now n.now }
 {
@@ -176,6 +188,7 @@ fn two_words(name: &[u8], n: &[u8]) -> Option<RichtextChunk>
 }
 
 // text A B or raw A B
+#[tactic(auto, unfolding(crate::specs::Field::three_words))]
 fn three_words(name: &[u8], a: &[u8], b: &[u8]) -> Option<RichtextChunk>
     ensures { result ≡ three_words name.now a.now b.now }
 {
@@ -187,6 +200,7 @@ fn three_words(name: &[u8], a: &[u8], b: &[u8]) -> Option<RichtextChunk>
 }
 
 // A chunk of one to three words.
+#[tactic(auto, unfolding(crate::specs::Field::chunk_by))]
 pub fn chunk(t: &[u8]) -> Option<RichtextChunk>
     ensures { result ≡ chunk_of t.now }
 {
@@ -200,6 +214,7 @@ pub fn chunk(t: &[u8]) -> Option<RichtextChunk>
 }
 
 // PEER.COUNTER LAMPORT REAL STATUS DIFF LEFT RIGHT A B
+#[tactic(auto, unfolding(crate::specs::Field::span_of))]
 pub fn span(t: &[u8]) -> Option<FugueSpan>
     ensures { result ≡ span_of t.now }
 {

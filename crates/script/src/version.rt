@@ -7,6 +7,7 @@ use span::ids::Id;
 use text::parts::{after, before, part, parts};
 
 // How many pairs the word has, where it says a version.
+#[tactic(auto, unfolding(crate::specs::Version::pair_count))]
 pub fn pairs(w: &[u8]) -> usize
     ensures { result ≡ pair_count w.now }
 {
@@ -18,6 +19,7 @@ pub fn pairs(w: &[u8]) -> usize
 }
 
 // Pair i: the count stands as the counter of an id.
+#[tactic(auto, unfolding(crate::specs::Version::pair_of))]
 pub fn pair(w: &[u8], i: usize) -> Option<Id>
     ensures { result ≡ pair_of w.now i }
 {
@@ -26,6 +28,7 @@ pub fn pair(w: &[u8], i: usize) -> Option<Id>
 }
 
 // Whether the word says a version: every pair is one.
+#[tactic(auto, unfolding(crate::specs::Version::is_version))]
 pub fn is_version(w: &[u8]) -> bool
     ensures { result ≡ is_version w.now }
 {

@@ -5,27 +5,20 @@
 mod calls;
 mod fields;
 mod line;
-mod same;
 mod tally;
 
 use std::io;
 use tally::Tally;
 
 // A proved loop has to end, and nothing says that the input does: so the turns are counted, from a number that no run uses up.
-fn replay(rt: &HostRuntime, line: &mut [u8]) -> io::Result<Tally> {
+fn main(rt: HostRuntime) -> io::Result<()> {
     let mut input = rt.stdin();
-    let mut tally = Tally::new();
+    let mut line = [0u8; 1024];
+    let mut tally = Tally::default();
     for _ in 0..u64::MAX {
-        tally = tally::block(rt, &mut input, line, tally)?;
-        if tally.at_end {
-            return Ok(tally);
+        if !tally.block(&rt, &mut input, &mut line)? {
+            break;
         }
     }
-    Ok(tally)
-}
-
-fn main(rt: HostRuntime) -> io::Result<()> {
-    let mut line = [0u8; 1024];
-    let tally = replay(&rt, &mut line)?;
     tally.print(&rt)
 }

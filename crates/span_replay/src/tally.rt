@@ -5,50 +5,37 @@ use std::io;
 use std::io::{Read, Stdin};
 
 // `used` bytes of the line that is being read have come.
-#[derive(Clone, Copy)]
+#[derive(Clone, Copy, Default)]
 pub struct Tally {
-    pub used: usize,
-    pub lines: u64,
-    pub agree: u64,
-    pub differ: u64,
-    pub unread: u64,
-    pub at_end: bool,
+    used: usize,
+    lines: u64,
+    agree: u64,
+    differ: u64,
+    unread: u64,
 }
 
+// What a line came to that is not a comment.
 #[derive(Clone, Copy)]
-pub enum Outcome {
+enum Outcome {
     Agrees,
     Differs,
     Unread,
-    Comment,
 }
 
-fn replayed(line: &[u8]) -> Outcome {
-    if line.len() == 0 {
-        return Outcome::Comment;
-    }
-    if line[0] == b'#' {
-        return Outcome::Comment;
+fn replayed(line: &[u8]) -> Option<Outcome> {
+    if line.is_empty() || line[0] == b'#' {
+        return None;
     }
     let mut x = [0u64; 64];
     let n = numbers(line, &mut x);
     let call = x[0];
-    if n == 0 {
-        return Outcome::Unread;
-    }
-    if n != count(call) {
-        return Outcome::Unread;
-    }
-    if agrees(call, &x) {
-        Outcome::Agrees
+    if n == 0 || n != count(call) {
+        Some(Outcome::Unread)
+    } else if agrees(call, &x) {
+        Some(Outcome::Agrees)
     } else {
-        Outcome::Differs
+        Some(Outcome::Differs)
     }
-}
-
-// One more, up to the last number.
-fn more(n: u64) -> u64 {
-    if n < 18446744073709551615 { n + 1 } else { n }
 }
 
 fn print_line(rt: &impl Print, what: &[u8], number: u64, line: &[u8]) -> io::Result<()> {
@@ -58,94 +45,74 @@ fn print_line(rt: &impl Print, what: &[u8], number: u64, line: &[u8]) -> io::Res
     rt.write_all(b"\n")
 }
 
-// A line has ended: a new one begins, and what this one came to is counted, and printed where it does not agree.
-fn ended(rt: &impl Print, line: &[u8], tally: Tally) -> io::Result<Tally> {
-    let mut t = tally;
-    t.used = 0;
-    t.lines = more(t.lines);
-    match replayed(line) {
-        Outcome::Agrees => {
-            t.agree = more(t.agree);
-        }
-        Outcome::Differs => {
-            print_line(rt, b"differs,", t.lines, line)?;
-            t.differ = more(t.differ);
-        }
-        Outcome::Unread => {
-            print_line(rt, b"not read,", t.lines, line)?;
-            t.unread = more(t.unread);
-        }
-        Outcome::Comment => {}
-    }
-    Ok(t)
-}
-
-// The same where the line had no room.
-fn too_long(rt: &impl Print, tally: Tally) -> io::Result<Tally> {
-    let mut t = tally;
-    t.used = 0;
-    t.lines = more(t.lines);
-    t.unread = more(t.unread);
-    print_line(rt, b"not read,", t.lines, b"too long")?;
-    Ok(t)
-}
-
-// A byte of the input. A line that fills the buffer has no room.
-fn byte(rt: &impl Print, line: &mut [u8], tally: Tally, b: u8) -> io::Result<Tally> {
-    let used = tally.used;
-    let mut t = tally;
-    if used < line.len() {
-        if b == b'\n' {
-            return ended(rt, &line[..used], t);
-        }
-        line[used] = b;
-        t.used = used + 1;
-        return Ok(t);
-    }
-    if b == b'\n' {
-        return too_long(rt, t);
-    }
-    Ok(t)
-}
-
-fn bytes(rt: &impl Print, block: &[u8], line: &mut [u8], tally: Tally) -> io::Result<Tally> {
-    let mut t = tally;
-    for b in block {
-        t = byte(rt, line, t, *b)?;
-    }
-    Ok(t)
-}
-
-// Reads once. At the end of the input a last line without its end is a line too.
-pub fn block(
-    rt: &impl Print,
-    input: &mut Stdin,
-    line: &mut [u8],
-    tally: Tally,
-) -> io::Result<Tally> {
-    let mut buf = [0u8; 65536];
-    let n = input.read(&mut buf)?;
-    if n == 0 {
-        let mut last = tally;
-        if 0 < tally.used {
-            last = byte(rt, line, tally, b'\n')?;
-        }
-        last.at_end = true;
-        return Ok(last);
-    }
-    bytes(rt, &buf[..n], line, tally)
-}
-
 impl Tally {
-    pub fn new() -> Self {
-        Tally {
-            used: 0,
-            lines: 0,
-            agree: 0,
-            differ: 0,
-            unread: 0,
-            at_end: false,
+    // A line has ended: a new one begins, and what this one came to is counted, and printed where it does not agree.
+    fn end(&mut self, rt: &impl Print, line: &[u8]) -> io::Result<()> {
+        self.used = 0;
+        self.lines = self.lines.saturating_add(1);
+        match replayed(line) {
+            None => Ok(()),
+            Some(Outcome::Agrees) => {
+                self.agree = self.agree.saturating_add(1);
+                Ok(())
+            }
+            Some(Outcome::Differs) => {
+                self.differ = self.differ.saturating_add(1);
+                print_line(rt, b"differs,", self.lines, line)
+            }
+            Some(Outcome::Unread) => {
+                self.unread = self.unread.saturating_add(1);
+                print_line(rt, b"not read,", self.lines, line)
+            }
         }
+    }
+
+    // The same where the line had no room.
+    fn too_long(&mut self, rt: &impl Print) -> io::Result<()> {
+        self.used = 0;
+        self.lines = self.lines.saturating_add(1);
+        self.unread = self.unread.saturating_add(1);
+        print_line(rt, b"not read,", self.lines, b"too long")
+    }
+
+    // A byte of the input. A line that fills the buffer has no room.
+    fn byte(&mut self, rt: &impl Print, line: &mut [u8], b: u8) -> io::Result<()> {
+        let used = self.used;
+        let has_room = used < line.len();
+        if b == b'\n' {
+            if has_room {
+                self.end(rt, &line[..used])
+            } else {
+                self.too_long(rt)
+            }
+        } else {
+            if has_room {
+                line[used] = b;
+                self.used = used + 1;
+            }
+            Ok(())
+        }
+    }
+
+    // Reads once, and says whether there was something. At the end of the input a last line without its end is a line too.
+    pub fn block(
+        &mut self,
+        rt: &impl Print,
+        input: &mut Stdin,
+        line: &mut [u8],
+    ) -> io::Result<bool> {
+        let mut buf = [0u8; 65536];
+        let n = input.read(&mut buf)?;
+        if n == 0 {
+            if 0 < self.used {
+                self.byte(rt, line, b'\n')?;
+            }
+            return Ok(false);
+        }
+        for b in &buf[..n] {
+            self.byte(rt, line, *b)?;
+        }
+        Ok(true)
     }
 
     pub fn print(self, rt: &impl Print) -> io::Result<()> {
