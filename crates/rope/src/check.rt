@@ -6,7 +6,7 @@ ghost use Rattle.rope.specs.Spans.{apart_rows, AllOk};
 ghost use Rattle.units.specs.Store.{touching, joined_rows, named, origins_named, well_formed};
 
 use crate::find::{has, holds};
-use crate::order::{order, origins_sorted, twice};
+use crate::order::{order, origins_sorted};
 use crate::place::len_of;
 use span::ids::Id;
 use span::span::FugueSpan;
@@ -94,21 +94,14 @@ fn plain(s: &[u8], n: usize) -> bool
     distinct(s, n) && origins(s, n)
 }
 
-// The same by the order of the ids, in n log n. The plain form answers where the sort gave no order and no clash: that it always gives one is
-// not proved, and nothing rests on it.
+// The same by the order of the ids, in n log n.
 #[tactic(auto, using(crate::proofs::Orders::sorted_apart))]
 fn ordered(s: &[u8], n: usize) -> bool
     requires { (n * 72 ≤ length s.now) × AllOk (rows n s.now) × (n ≤ 65536) }
     ensures { result ≡ (apart_rows [] (rows n s.now) && origins_named (rows n s.now) (expand (rows n s.now))) }
 {
     let mut idx = [0u16; 65536];
-    if order(s, n, &mut idx) {
-        origins_sorted(s, n, &idx)
-    } else if twice(s, n, &idx) {
-        false
-    } else {
-        plain(s, n)
-    }
+    order(s, n, &mut idx) && origins_sorted(s, n, &idx)
 }
 
 // Whether n rows are a well formed list. A short list is asked plainly.
