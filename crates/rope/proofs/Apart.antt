@@ -9,7 +9,7 @@ use lib.ListN.{drop}
 use lib.IntN.{ℤ, pos, ◌+ℤ◌}
 use Rattle.span.specs.declared.ids.Id.{Id}
 use Rattle.span.specs.Maybe.{OptId}
-use Rattle.std.specs.Prelude.{None as Nothing, Some as At}
+use Rattle.std.specs.Prelude.{Some as At}
 use Rattle.span.specs.declared.span.FugueSpan.{FugueSpan}
 use Rattle.span.specs.Ids.{inc_id, room_of}
 use Rattle.span.proofs.IdsLaws.{roomy, inc_zero}

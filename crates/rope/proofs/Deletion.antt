@@ -11,7 +11,6 @@ use Rattle.words.specs.Le.{bytes_of, put}
 use Rattle.span.specs.declared.ids.Id.{Id}
 use Rattle.std.specs.Prelude.{Some as At}
 use Rattle.span.specs.declared.span.FugueSpan.{FugueSpan}
-use Rattle.span.specs.Answer.{answer}
 use Rattle.span.proofs.AnswerLaws.{is_done, is_refused}
 use Rattle.span.proofs.RefusalLaws.{number_not_zero, answer_err}
 use Rattle.span.specs.Ids.{room_opt}

@@ -1,7 +1,7 @@
 -- the search by id, row by row, and what it says of the units
 use Prim.Native.Nat.{ℕ, ◌+◌, ◌*◌, ◌<◌, ◌≤◌}
 use mathlib.Core.Path.{◌≡◌, refl, sym, ap, ◌∙◌}
-use mathlib.Core.Bool.{Bool, true, false, ◌||◌}
+use mathlib.Core.Bool.{Bool, ◌||◌}
 use mathlib.Core.List.{List, [], ◌∷◌}
 use lib.ListN.{drop}
 use Rattle.span.specs.Maybe.{OptId}
@@ -9,7 +9,7 @@ use Rattle.span.specs.declared.span.FugueSpan.{FugueSpan}
 use Rattle.span.specs.Span.{span_code}
 use Rattle.span.specs.Units.{units_of, expand}
 use Rattle.store.specs.Row.{rows, row_at}
-use Rattle.rope.specs.Maybe.{Offset, Found}
+use Rattle.rope.specs.Maybe.{Offset}
 use Rattle.std.specs.Option.{is_some}
 use Rattle.std.specs.Prelude.{Some, None}
 use Rattle.units.specs.Place.{mem_id}

@@ -1,10 +1,9 @@
 -- where in a span an id stands: by the values that the code takes, and what it says of the span's units
 use Prim.Native.Nat.{ℕ, zero, suc, ◌+◌, ◌-◌, ◌<◌, ◌≤◌}
 use mathlib.Core.Path.{◌≡◌, refl, sym, ap, ap₂, ◌∙◌}
-use mathlib.Core.Bool.{Bool, true, false, ◌&&◌, ◌||◌, cond, false≢true, true≢false}
-use mathlib.Core.List.{List, [], ◌∷◌, ◌++◌}
+use mathlib.Core.Bool.{Bool, true, false, ◌&&◌, ◌||◌, cond}
 use native.Mathlib.Omega.{arith}
-use native.Mathlib.Nat.{add-suc, add-zero, zero-add}
+use native.Mathlib.Nat.{add-zero}
 use lib.Dec.{ltb, leb, eqb}
 use lib.IntN.{ℤ, pos, negsuc, ◌+ℤ◌}
 use borrow.Author.Tests.{eq-eqb, ne_eqb, lt-ltb, le-ltb, le-leb, lt-leb, leb-true, ltb-true, eqb-true}
@@ -15,10 +14,10 @@ use Rattle.span.specs.declared.span.FugueSpan.{FugueSpan}
 use Rattle.std.specs.Prelude.{Some, None}
 use Rattle.span.specs.Status.{counter_of, eq_z}
 use Rattle.span.specs.Ids.{inc_id, same_id, same_opt, room_of}
-use Rattle.span.proofs.IdsLaws.{Room, roomy, inc_zero}
-use Rattle.span.proofs.Same.{same_opt-true, same_opt_refl, same_id_refl}
-use Rattle.span.specs.Span.{len_span, span_code, shift, left_of, part_span}
-use Rattle.span.proofs.SpanLaws.{SpanOk, span_ok}
+use Rattle.span.proofs.IdsLaws.{roomy}
+use Rattle.span.proofs.Same.{same_opt-true, same_opt_refl}
+use Rattle.span.specs.Span.{len_span, span_code, shift, left_of}
+use Rattle.span.proofs.SpanLaws.{span_ok}
 use Rattle.span.specs.Units.{tab, unit_at, units_of}
 use Rattle.rope.specs.Maybe.{Offset}
 use Rattle.units.specs.Place.{mem_id, has_ol, pos_of}

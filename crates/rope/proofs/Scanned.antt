@@ -1,31 +1,30 @@
 -- C2: the scan by spans is the scan by units. A later unit of a span has an origin left that was scanned and is not ours.
-use Prim.Native.Nat.{ℕ, zero, suc, ◌+◌, ◌-◌, ◌<◌, ◌≤◌}
+use Prim.Native.Nat.{ℕ, zero, suc, ◌+◌, ◌-◌, ◌<◌}
 use mathlib.Core.Path.{◌≡◌, refl, sym, ap, ap₂, ◌∙◌}
-use mathlib.Core.Bool.{Bool, true, false, ◌||◌, cond, false≢true, true≢false}
+use mathlib.Core.Bool.{Bool, true, false, cond, true≢false}
 use mathlib.Core.List.{List, [], ◌∷◌, ◌++◌, append_assoc, append-nil}
 use native.Mathlib.Omega.{arith}
-use native.Mathlib.Nat.{add-suc, add-zero, zero-add}
-use lib.ListN.{length, take, length-append}
+use native.Mathlib.Nat.{zero-add}
+use lib.ListN.{length, length-append}
 use lib.Seq.{take_at}
 use Rattle.span.specs.Maybe.{OptId}
 use Rattle.std.specs.Prelude.{None as Nothing, Some as At}
 use Rattle.span.specs.declared.span.FugueSpan.{FugueSpan}
 use Rattle.span.specs.declared.status.Status.{Status}
 use Rattle.span.specs.Ids.{inc_id, same_opt}
-use Rattle.span.proofs.IdsLaws.{inc_zero}
 use Rattle.span.proofs.Same.{same_opt-true, same_opt_refl}
 use Rattle.span.specs.Span.{len_span, span_code, shift, left_of}
-use Rattle.span.proofs.SpanLaws.{SpanOk, span_ok}
+use Rattle.span.proofs.SpanLaws.{span_ok}
 use Rattle.span.proofs.Views.{len_pos}
 use Rattle.span.specs.Units.{tab, unit_at, units_of, expand}
 use Rattle.span.proofs.ListLaws.{tab-add}
 use Rattle.span.proofs.ForRope.{units_length, expand-append}
 use Rattle.units.specs.declared.place.Verdict.{Verdict}
-use Rattle.units.specs.declared.place.Verdict.TheVariants.{Stop, Hold, Clear, Keep}
+use Rattle.units.specs.declared.place.Verdict.TheVariants.{Keep}
 use Rattle.units.specs.Place.{mem_id, sibling, verdict, is_stop, after, run, up_to, first_past, Distinct}
 use Rattle.rope.specs.Spans.{width, AllOk, run_s}
-use Rattle.rope.proofs.Offsets.{unit_id, unit_left, unit_status, tab_has}
-use Rattle.rope.proofs.Lists.{or_left, or_right, or-false, mem_append, mem_none}
+use Rattle.rope.proofs.Offsets.{unit_left, unit_status, tab_has}
+use Rattle.rope.proofs.Lists.{or_right, or-false, mem_append}
 
 -- ---- the future units at the front
 

@@ -1,21 +1,20 @@
 -- a turn of the placement loop, by what its tests said
-use Prim.Native.Nat.{ℕ, zero, suc, ◌+◌, ◌-◌, ◌*◌, ◌<◌, ◌≤◌}
+use Prim.Native.Nat.{ℕ, suc, ◌+◌, ◌-◌, ◌*◌, ◌<◌, ◌≤◌}
 use mathlib.Core.Path.{◌≡◌, refl, sym, ap, ap₂, ◌∙◌}
 use mathlib.Core.Bool.{Bool, true, false, not, ◌||◌, cond, false≢true, true≢false}
 use mathlib.Core.List.{List, [], ◌∷◌, ◌++◌, append-nil}
 use native.Mathlib.Omega.{arith}
 use native.Mathlib.Numerals.{add-one}
-use lib.ListN.{length, take, drop}
+use lib.ListN.{take, drop}
 use lib.Seq.{take-add}
 use Rattle.span.specs.Maybe.{OptId}
 use Rattle.span.specs.declared.span.FugueSpan.{FugueSpan}
 use Rattle.span.specs.Ids.{same_opt}
-use Rattle.span.specs.Span.{len_span, span_code}
 use Rattle.span.specs.Units.{units_of, expand}
 use Rattle.span.proofs.ForRope.{expand-append}
 use Rattle.store.specs.Row.{rows, row_at}
 use Rattle.units.specs.declared.place.Verdict.{Verdict}
-use Rattle.units.specs.declared.place.Verdict.TheVariants.{Stop, Hold, Clear, Keep}
+use Rattle.units.specs.declared.place.Verdict.TheVariants.{Stop, Keep}
 use Rattle.units.specs.Place.{mem_id, sibling, verdict, is_stop, after}
 use Rattle.rope.specs.Spans.{covered, AllOk, run_s}
 use Rattle.rope.proofs.Offsets.{covers_units}

@@ -1,5 +1,5 @@
 -- The delta one entry after the other, and in lent columns of numbers. Assumes nothing.
-use Rattle.std.specs.Prelude.{ℕ, ◌+◌, ◌*◌, ◌≤◌, ◌<◌, min, ◌≡◌, List, [], ◌∷◌, map, length, set, drop, if◌then◌else◌, nat_le, ◌==◌}
+use Rattle.std.specs.Prelude.{ℕ, ◌+◌, ◌≤◌, min, ◌≡◌, List, [], ◌∷◌, map, length, set, drop, if◌then◌else◌, nat_le, ◌==◌}
 use Rattle.span.specs.declared.ids.Id.{Id}
 use Rattle.span.specs.declared.chunk.RichtextChunk.{RichtextChunk}
 use Rattle.span.specs.declared.span.FugueSpan.{FugueSpan}

@@ -1,4 +1,3 @@
-use Prim.Native.Nat.{◌-◌}
 use Rattle.rope.proofs.Queue.{moved_one}
 use Rattle.rope.proofs.apply.move_first.Goals as goal
 

@@ -1,7 +1,6 @@
 use Rattle.rope.specs.Applies.{Grown}
 use Rattle.span.specs.declared.span.FugueSpan.{FugueSpan}
 use mathlib.Core.List.{List, [], ◌∷◌}
-use Prim.Native.Nat.{◌-◌}
 use mathlib.Core.Path.{sym, ap, subst, ◌∙◌}
 use Rattle.rope.specs.Pieces.{change_span}
 use Rattle.span.proofs.Unique.{in_range_lem}

@@ -2,7 +2,6 @@ use Rattle.rope.specs.Applies.{Grown}
 use Rattle.span.specs.Span.{span_code}
 use Rattle.span.specs.declared.span.FugueSpan.{FugueSpan}
 use mathlib.Core.List.{List, [], ◌∷◌}
-use Prim.Native.Nat.{◌-◌}
 use mathlib.Core.Path.{◌≡◌, sym, ap, subst, ◌∙◌}
 use Rattle.span.proofs.UnitLaws.{part_ok}
 use Rattle.span.proofs.Unique.{in_range_lem}

@@ -1,5 +1,5 @@
 use Rattle.span.specs.Span.{len_span, span_code, part_span}
-use Prim.Native.Nat.{◌+◌, ◌-◌, ◌*◌, ◌≤◌, ◌<◌}
+use Prim.Native.Nat.{◌+◌, ◌*◌, ◌≤◌, ◌<◌}
 use native.Mathlib.Omega.{arith}
 use mathlib.Core.Path.{◌≡◌, refl, sym, subst}
 use Rattle.rope.proofs.Cuts.{cut_most}

@@ -1,5 +1,4 @@
 use mathlib.Core.Path.{ap, ◌∙◌}
-use Prim.Native.Nat.{◌-◌}
 use Rattle.span.specs.Span.{len_span}
 use Rattle.rope.proofs.Counts.{count_turn, count_done}
 use Rattle.rope.proofs.check.units.Goals as goal

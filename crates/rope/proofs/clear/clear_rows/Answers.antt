@@ -4,7 +4,6 @@ use Rattle.rope.specs.Spans.{clear_span}
 use Rattle.store.specs.Row.{rows}
 use mathlib.Core.Path.{◌≡◌, refl, ap, ◌∙◌}
 use lib.ListN.{length}
-use Prim.Native.Nat.{◌-◌}
 use native.Mathlib.Omega.{arith}
 use Rattle.rope.proofs.clear.clear_rows.Goals as goal
 

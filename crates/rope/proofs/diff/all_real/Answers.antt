@@ -1,7 +1,5 @@
-use Prim.Native.Nat.{◌-◌}
 use mathlib.Core.Path.{sym, ◌∙◌}
 use mathlib.Core.Bool.{true, false}
-use native.Mathlib.Omega.{arith}
 use borrow.Author.Tests.{not-true, not-false}
 use Rattle.rope.proofs.Diffs.{reals_turn, reals_done}
 use mathlib.Core.Path.{ap}

@@ -1,4 +1,3 @@
-use Prim.Native.Nat.{◌-◌}
 use mathlib.Core.Path.{sym, ◌∙◌}
 use native.Mathlib.Omega.{arith}
 use Rattle.rope.proofs.Diffs.{walk_start, walk_fits, walk_on, walk_stop, walk_end}

@@ -1,5 +1,5 @@
 use Rattle.rope.proofs.Diffs.{going_start, going_next}
-use Rattle.rope.proofs.Fills.{start_all, fill_room, fill_next, fill_end}
+use Rattle.rope.proofs.Fills.{start_all, fill_next, fill_end}
 use Rattle.rope.proofs.diff.write_entries.Goals as goal
 
 pub loop-next-init : goal.loop-next-init

@@ -2,7 +2,6 @@ use Prim.Native.Nat.{◌*◌}
 use Rattle.store.specs.Row.{row_at}
 use Rattle.span.specs.Span.{len_span}
 use native.Mathlib.Omega.{arith}
-use Prim.Native.Nat.{◌-◌}
 use mathlib.Core.Path.{◌≡◌, sym, ap, ◌∙◌}
 use Rattle.rope.proofs.Rights.{fine, fits, found, elsewhere, turn, done}
 use Rattle.rope.proofs.place.parent_pos.Goals as goal

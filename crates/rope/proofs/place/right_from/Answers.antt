@@ -3,7 +3,6 @@ use Rattle.units.specs.Place.{first_past}
 use Rattle.store.specs.Row.{rows}
 use Rattle.span.specs.Units.{expand}
 use Rattle.span.specs.declared.span.FugueSpan.{FugueSpan}
-use Prim.Native.Nat.{◌-◌}
 use mathlib.Core.List.{List}
 use mathlib.Core.Path.{sym, ap, subst, ◌∙◌}
 use Rattle.rope.proofs.Whole.{rows_part, part_long, ok_drop}

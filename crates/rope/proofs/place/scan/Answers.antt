@@ -6,7 +6,7 @@ use Rattle.span.specs.Ids.{same_opt}
 use Rattle.span.specs.declared.span.FugueSpan.{FugueSpan}
 use lib.ListN.{take}
 use native.Mathlib.Omega.{arith}
-use Prim.Native.Nat.{ℕ, ◌-◌}
+use Prim.Native.Nat.{ℕ}
 use mathlib.Core.Bool.{true, false}
 use mathlib.Core.Path.{refl, sym, ap, ◌∙◌}
 use Rattle.rope.proofs.Rights.{same_eq}

@@ -4,7 +4,7 @@ use Rattle.store.specs.Row.{rows}
 use Rattle.span.specs.Units.{expand}
 use Rattle.span.specs.declared.span.FugueSpan.{FugueSpan}
 use lib.ListN.{drop}
-use Prim.Native.Nat.{ℕ, ◌-◌}
+use Prim.Native.Nat.{ℕ}
 use mathlib.Core.Bool.{false}
 use mathlib.Core.List.{List, []}
 use mathlib.Core.Path.{sym, ap, subst, ◌∙◌}

@@ -10,7 +10,7 @@ use Rattle.std.specs.Prelude.{Option, Ok}
 use Rattle.span.specs.declared.ids.Id.{Id}
 use Rattle.span.specs.declared.span.FugueSpan.{FugueSpan}
 use Rattle.units.specs.Query.{real_span_at}
-use Rattle.rope.specs.Entries.{real_answer, real_said, real_done}
+use Rattle.rope.specs.Entries.{real_answer, real_done}
 use mathlib.Core.Bool.{not}
 use Rattle.rope.proofs.query.active_real_span_at.Goals as goal
 

@@ -1,4 +1,3 @@
-use Prim.Native.Nat.{◌-◌}
 use native.Mathlib.Omega.{arith}
 use Rattle.rope.proofs.Reporting.{put_some, put_none}
 use Rattle.rope.proofs.report.put_part.Goals as goal

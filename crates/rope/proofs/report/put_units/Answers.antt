@@ -1,4 +1,4 @@
-use Prim.Native.Nat.{◌+◌, ◌-◌}
+use Prim.Native.Nat.{◌+◌}
 use native.Mathlib.Omega.{arith}
 use Rattle.span.proofs.Unique.{in_range_lem}
 use Rattle.rope.proofs.Reporting.{down_start, down_turn}

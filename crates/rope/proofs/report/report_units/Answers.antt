@@ -3,7 +3,7 @@ use Rattle.rope.specs.Reports.{PutUnits}
 use Rattle.rope.specs.Pieces.{delete_cut, delete_after}
 use Rattle.span.specs.Span.{len_span, span_code}
 use Rattle.span.specs.declared.span.FugueSpan.{FugueSpan}
-use Prim.Native.Nat.{◌-◌, ◌≤◌}
+use Prim.Native.Nat.{◌≤◌}
 use native.Mathlib.Omega.{arith}
 use mathlib.Core.Path.{◌≡◌, sym, ap, subst, ◌∙◌}
 use Rattle.rope.proofs.Reporting.{back_start, back_asks, back_turn, back_done}

@@ -1,5 +1,4 @@
 use Rattle.rope.specs.Pieces.{delete_cut, delete_after}
-use Prim.Native.Nat.{◌-◌}
 use native.Mathlib.Omega.{arith}
 use mathlib.Core.Path.{ap, ◌∙◌}
 use Rattle.rope.proofs.Reporting.{touch_turn, touch_done}

@@ -3,7 +3,7 @@ use Rattle.span.specs.Span.{active_len}
 use Rattle.span.specs.Units.{expand}
 use lib.ListN.{length}
 use Rattle.rope.proofs.WellFormed.{good_of}
-use Prim.Native.Nat.{◌-◌, ◌*◌}
+use Prim.Native.Nat.{◌*◌}
 use mathlib.Core.Path.{◌≡◌, ap, ◌∙◌}
 use Rattle.rope.proofs.Seeks.{sum_start, sum_turn, sum_done}
 use Rattle.rope.proofs.seek.visible.Goals as goal

@@ -5,7 +5,6 @@ use mathlib.Core.List.{List}
 use Rattle.span.specs.declared.span.FugueSpan.{FugueSpan}
 use Rattle.words.specs.Le.{put}
 use Rattle.store.specs.Row.{row_bytes}
-use Rattle.units.specs.Query.{placeholder}
 use Rattle.rope.proofs.States.{with_none, with_many, with_full, with_done, room_head}
 use Rattle.rope.proofs.state.open_with.Goals as goal
 use Rattle.rope.proofs.state.open_with.Goals.{then-n-gt-UNITS-via-then-n-gt-UNITS, then-n-gt-UNITS-via-else-n-gt-UNITS+then-room-eq0}

@@ -3,7 +3,6 @@ use Rattle.span.specs.Units.{units_of}
 use Rattle.span.specs.Span.{span_code}
 use Rattle.span.specs.declared.span.FugueSpan.{FugueSpan}
 use lib.IntN.{pos}
-use Prim.Native.Nat.{◌-◌}
 use native.Mathlib.Omega.{arith}
 use mathlib.Core.Bool.{true, false}
 use mathlib.Core.Path.{◌≡◌, sym, ap, subst, ◌∙◌}

@@ -5,7 +5,6 @@ use Rattle.span.specs.Units.{units_of}
 use Rattle.span.specs.declared.span.FugueSpan.{FugueSpan}
 use lib.IntN.{pos}
 use lib.ListN.{length}
-use Prim.Native.Nat.{◌-◌}
 use mathlib.Core.Path.{◌≡◌, sym, ap, subst, ◌∙◌}
 use Rattle.rope.proofs.Rights.{row_ok}
 use Rattle.rope.proofs.Held.{sum_turn, sum_held}
