@@ -1,7 +1,10 @@
 -- the entries of a delta, counted row by row; and the rows of a joined list as they go by
 use Prim.Native.Nat.{ℕ, ◌+◌, ◌-◌, ◌*◌, ◌<◌, ◌≤◌}
 use mathlib.Core.Path.{◌≡◌, refl, sym, ap, subst, ◌∙◌}
-use mathlib.Core.Bool.{Bool, true, false, cond, ◌&&◌, and_assoc}
+use mathlib.Core.Bool.{Bool, true, false, cond, ◌&&◌, and_assoc, true≢false}
+use Rattle.core.specs.Option.{is_some}
+use Rattle.std.specs.Prelude.{None as Nothing, Some as At}
+use Rattle.span.specs.Maybe.{OptId}
 use mathlib.Core.List.{List, [], ◌∷◌, ◌++◌, append_assoc, append-nil}
 use mathlib.Core.Logic.{◌⊎◌, inl, inr}
 use native.Mathlib.Omega.{arith}
@@ -38,6 +41,19 @@ use Rattle.tracker.specs.Measures.{nothing, changed, measure_by, measured, measu
 use Rattle.tracker.proofs.Nexts.{ahead_start, ahead_end, place_start, seen_few}
 
 -- ---- one change, one row
+
+pub and_true : (a b : Bool) → a ≡ true → b ≡ (a && b)
+and_true true b e = refl
+and_true false b e = absurd (true≢false (sym e))
+
+pub and_false : (a b : Bool) → a ≡ false → false ≡ (a && b)
+and_false true b e = absurd (true≢false e)
+and_false false b e = refl
+
+-- a real id that is there
+pub some_real : (o : OptId) → is_some o ≡ is_real o
+some_real Nothing = refl
+some_real (At i) = refl
 
 pub changed_by : (x : Measure) (real : Bool) (b : Bool) → eqb x.gap 0 ≡ b → (f : Bool) → f ≡ (x.fine && real) → ◌≡◌ {A = Measure} (record { fine = f; rows = x.rows + 1; entries = x.entries + cond b 1 2; gap = 0 }) (changed x real)
 unfolding changed

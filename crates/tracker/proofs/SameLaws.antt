@@ -14,6 +14,8 @@ use Rattle.span.specs.Maybe.{OptId}
 use Rattle.std.specs.Prelude.{Some as At}
 use Rattle.span.specs.declared.span.FugueSpan.{FugueSpan}
 use Rattle.span.specs.Chunk.{chunk, MOVE, UNKNOWN, len_of, part_chunk}
+use Rattle.std.specs.Option.{option_eq}
+use Rattle.span.proofs.Derived.{id_eq, chunk_eq, id_derived, opt_derived}
 use Rattle.span.specs.Ids.{UNKNOWN_PEER, inc_id, inc_opt, same_id, same_opt}
 use Rattle.span.specs.Span.{len_span, span_code, slice_span_code, part_span, shift}
 use Rattle.span.specs.Units.{tab, unit_at, units_of}
@@ -85,6 +87,10 @@ unit_by u v p q r s a b c d =
     and-and : (x y z : Bool) → ((x && y) && z) ≡ (x && (y && z))
     and-and true y z = refl
     and-and false y z = refl
+
+-- same_unit, by what `==` answers
+pub unit_derived : (u v : FugueSpan) → (id_eq u.id v.id && (eqb u.lamport v.lamport && (chunk_eq u.content v.content && (eqb u.id.peer UNKNOWN_PEER || option_eq id_eq u.real_id v.real_id)))) ≡ same_unit u v
+unit_derived u v = unit_by u v _ _ _ _ (sym (id_derived u.id v.id)) refl refl (ap (λ (b : Bool). eqb u.id.peer UNKNOWN_PEER || b) (sym (opt_derived u.real_id v.real_id)))
 
 -- what same_unit tells
 record Alike (u v : FugueSpan) : Type 0 where
