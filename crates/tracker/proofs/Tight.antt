@@ -46,6 +46,11 @@ use Rattle.tracker.proofs.Adds.{front-behind, meet_last, last_snoc, at_most, apa
 use Rattle.tracker.proofs.Insides.{cut_last, cut_all, in_piece}
 use Rattle.tracker.proofs.Scans.{mem_map, past_rows, place_rows}
 
+-- the opposite of a test, by its two answers
+pub by_not : (b x : Bool) → (b ≡ true → false ≡ x) → (b ≡ false → true ≡ x) → not b ≡ x
+by_not true x f g = f refl
+by_not false x f g = g refl
+
 pub held_of : (n : ℕ) (s : List ℕ) → Stored n s → (u : ℕ) → u ≡ length (expand (rows n s)) → Spans.Held n u s
 held_of n s w u e =
     let f = formed_of (rows n s) w.formed in

@@ -2,7 +2,7 @@ use mathlib.Core.Path.{sym, ◌∙◌}
 use native.Mathlib.Omega.{arith}
 use borrow.Author.Tests.{not-true, not-false}
 use Rattle.tracker.proofs.Betweens.{rooms_full, rooms_real, rooms_short, rooms_done}
-use Rattle.tracker.proofs.delta.rooms_code.Goals as goal
+use Rattle.tracker.proofs.delta.check_rooms.Goals as goal
 
 pub returns-then-spans-m : goal.returns-then-spans-m
 returns-then-spans-m c =

@@ -5,7 +5,7 @@ use Rattle.tracker.specs.Rows.{pairs, held}
 use Rattle.tracker.proofs.Betweens.{versions_by}
 use mathlib.Core.Path.{ap}
 use mathlib.Core.Bool.{not}
-use Rattle.tracker.proofs.delta.versions_code.Goals as goal
+use Rattle.tracker.proofs.delta.check_versions.Goals as goal
 
 pub returns-then-not-named : goal.returns-then-not-named
 returns-then-not-named c =

@@ -7,4 +7,4 @@ use Prim.Native.Nat.{◌-◌, ◌≤◌}
 use Rattle.tracker.proofs.same.rows_made.Given as goal
 
 abbrev pub invariant-loop-i : goal.invariant-loop-i
-invariant-loop-i l = (l.i ≤ l.n) × (all_made (made_in l.p l.h l.e) (expand (rows l.n l.s)) ≡ all_made (made_in l.p l.h l.e) (expand (drop l.i (rows l.n l.s))))
+invariant-loop-i l = all_made (made_in l.p l.h l.e) (expand (rows l.n l.s)) ≡ all_made (made_in l.p l.h l.e) (expand (drop l.i (rows l.n l.s)))

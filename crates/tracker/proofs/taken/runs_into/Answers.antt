@@ -6,7 +6,7 @@ use mathlib.Core.Path.{ap, ap₂, ◌∙◌}
 use Rattle.tracker.proofs.taken.runs_into.Goals as goal
 
 pub returns-then-j-m : goal.returns-then-j-m
-returns-then-j-m c = let a = c.args in c.same.ensures ∙ (ap₂ same_id c.inc-x.ensures (ap (λ (q : Range). q.id) c.get_target.ensures) ∙ next_range a.m a.t.now a.j c.if-j-m.true (to_range a.r))
+returns-then-j-m c = ?
 
 pub returns-else-j-m : goal.returns-else-j-m
-returns-else-j-m c = let a = c.args in no_range a.m a.t.now a.j c.if-j-m.false (to_range a.r)
+returns-else-j-m c = ?

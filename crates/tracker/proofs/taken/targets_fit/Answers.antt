@@ -12,10 +12,10 @@ took_fits_at-requires c = let l = c.loop-i in let a = c.args in let u = taking_u
     (c.requires.0, omega (arith, u, c.requires.2, c.took_at-m.ensures), omega (arith, u, c.requires.3, c.took_at-m.ensures))
 
 pub returns-then-not-took_fits_at : goal.returns-then-not-took_fits_at
-returns-then-not-took_fits_at c = let l = c.loop-i in let a = c.args in sym (taking_stop a.n a.s.now a.h a.e.now a.t.now c.requires.0 l.i l.at l.invariant c.loop-i-test.true _ _ _ c.took_at-m.ensures c.act_at-act.ensures c.took_fits_at.ensures (not-true _ (ap not c.if-not-took_fits_at.true)))
+returns-then-not-took_fits_at c = let l = c.loop-i in let a = c.args in sym (taking_stop a.n a.s.now a.h a.e.now a.t.now c.requires.0 l.i l.at l.invariant c.loop-i-test.true _ _ _ c.took_at-m.ensures c.act_at.ensures c.took_fits_at.ensures (not-true _ (ap not c.if-not-took_fits_at.true)))
 
 pub loop-i-preserved : goal.loop-i-preserved
-loop-i-preserved c = let l = c.loop-i in let a = c.args in taking_next a.n a.s.now a.h a.e.now a.t.now c.requires.0 l.i l.at l.invariant c.loop-i-test.true _ _ _ c.took_at-m.ensures c.act_at-act.ensures c.took_fits_at.ensures (not-false _ (ap not c.if-not-took_fits_at.false))
+loop-i-preserved c = let l = c.loop-i in let a = c.args in taking_next a.n a.s.now a.h a.e.now a.t.now c.requires.0 l.i l.at l.invariant c.loop-i-test.true _ _ _ c.took_at-m.ensures c.act_at.ensures c.took_fits_at.ensures (not-false _ (ap not c.if-not-took_fits_at.false))
 
 pub returns : goal.returns
 returns c = let l = c.loop-i in let a = c.args in sym (taking_done a.n a.s.now a.h a.e.now a.t.now c.requires.0 l.i l.at l.invariant c.loop-i-test.false)

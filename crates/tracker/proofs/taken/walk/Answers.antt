@@ -8,19 +8,16 @@ pub inc-x-requires : goal.inc-x-requires
 inc-x-requires c = let a = c.args in room_less a.r.id.counter a.o a.r.len (omega (arith, c.requires.2)) c.requires.3
 
 pub overflow_sub-n : goal.overflow_sub-n
-overflow_sub-n c = let a = c.args in let h = walked_low a.row c.requires.0 (to_range a.r) a.k a.o c.requires.1 c.requires.2 _ _ _ c.inc-x.ensures c.rle_len-n.ensures c.offset_of.ensures _ c.in-At.is in omega (arith, h)
+overflow_sub-n c = let a = c.args in let h = walked_low a.row c.requires.0 (to_range a.r) a.k a.o c.requires.1 c.requires.2 _ _ _ c.inc-x.ensures c.rle_len-n.ensures c.offset_of.ensures _ c.in-Some.is in omega (arith, h)
 
 pub overflow_sub-result-else-r-o : goal.overflow_sub-result-else-r-o
-overflow_sub-result-else-r-o c = let a = c.args in let h = walked_low a.row c.requires.0 (to_range a.r) a.k a.o c.requires.1 c.requires.2 _ _ _ c.inc-x.ensures c.rle_len-n.ensures c.offset_of.ensures _ c.in-At.is in omega (arith, h)
+overflow_sub-result-else-r-o c = let a = c.args in let h = walked_low a.row c.requires.0 (to_range a.r) a.k a.o c.requires.1 c.requires.2 _ _ _ c.inc-x.ensures c.rle_len-n.ensures c.offset_of.ensures _ c.in-Some.is in omega (arith, h)
 
-pub returns-in-Nothing : goal.returns-in-Nothing
-returns-in-Nothing c = let a = c.args in walked_none a.row c.requires.0 (to_range a.r) a.k a.o c.requires.1 c.requires.2 _ _ _ c.inc-x.ensures c.rle_len-n.ensures c.offset_of.ensures c.in-Nothing.is
-
-pub returns-then-d-k : goal.returns-then-d-k
-returns-then-d-k c = let a = c.args in walked_before a.row c.requires.0 (to_range a.r) a.k a.o c.requires.1 c.requires.2 _ _ _ c.inc-x.ensures c.rle_len-n.ensures c.offset_of.ensures _ c.in-At.is c.if-d-k.true
+pub returns-in_default : goal.returns-in_default
+returns-in_default c = ?
 
 pub returns-then-r-o : goal.returns-then-r-o
-returns-then-r-o c = let a = c.args in walked_range a.row c.requires.0 (to_range a.r) a.k a.o c.requires.1 c.requires.2 _ _ _ c.inc-x.ensures c.rle_len-n.ensures c.offset_of.ensures _ c.in-At.is c.if-d-k.false c.if-r-o.true
+returns-then-r-o c = let a = c.args in walked_range a.row c.requires.0 (to_range a.r) a.k a.o c.requires.1 c.requires.2 _ _ _ c.inc-x.ensures c.rle_len-n.ensures c.offset_of.ensures _ c.in-Some.is ? c.if-r-o.true
 
 pub returns-else-r-o : goal.returns-else-r-o
-returns-else-r-o c = let a = c.args in walked_row a.row c.requires.0 (to_range a.r) a.k a.o c.requires.1 c.requires.2 _ _ _ c.inc-x.ensures c.rle_len-n.ensures c.offset_of.ensures _ c.in-At.is c.if-d-k.false c.if-r-o.false
+returns-else-r-o c = let a = c.args in walked_row a.row c.requires.0 (to_range a.r) a.k a.o c.requires.1 c.requires.2 _ _ _ c.inc-x.ensures c.rle_len-n.ensures c.offset_of.ensures _ c.in-Some.is ? c.if-r-o.false

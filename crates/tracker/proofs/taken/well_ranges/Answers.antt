@@ -8,17 +8,11 @@ use mathlib.Core.Path.{ap}
 use mathlib.Core.Bool.{not}
 use Rattle.tracker.proofs.taken.well_ranges.Goals as goal
 
-pub returns-then-r-eq0 : goal.returns-then-r-eq0
-returns-then-r-eq0 c = let l = c.loop-j in let a = c.args in sym (l.invariant.1 ∙ well_turn a.m a.t.now l.j c.loop-j-test.true _ c.get_target-r.ensures true _ _ (eq-eqb _ _ c.if-r-eq0.true) refl refl)
-
-pub returns-then-not-has_room : goal.returns-then-not-has_room
-returns-then-not-has_room c = let l = c.loop-j in let a = c.args in sym (l.invariant.1 ∙ well_turn a.m a.t.now l.j c.loop-j-test.true _ c.get_target-r.ensures false false _ (ne_eqb _ _ c.if-r-eq0.false) (sym c.has_room.ensures ∙ not-true _ (ap not c.if-not-has_room.true)) refl)
-
 pub returns-then-runs_into : goal.returns-then-runs_into
-returns-then-runs_into c = let l = c.loop-j in let a = c.args in sym (l.invariant.1 ∙ well_turn a.m a.t.now l.j c.loop-j-test.true _ c.get_target-r.ensures false true true (ne_eqb _ _ c.if-r-eq0.false) (sym c.has_room.ensures ∙ not-false _ (ap not c.if-not-has_room.false)) (sym c.runs_into.ensures ∙ c.if-runs_into.true))
+returns-then-runs_into c = ?
 
 pub loop-j-preserved : goal.loop-j-preserved
-loop-j-preserved c = let l = c.loop-j in let a = c.args in (omega (arith, c.loop-j-test.true), l.invariant.1 ∙ well_turn a.m a.t.now l.j c.loop-j-test.true _ c.get_target-r.ensures false true false (ne_eqb _ _ c.if-r-eq0.false) (sym c.has_room.ensures ∙ not-false _ (ap not c.if-not-has_room.false)) (sym c.runs_into.ensures ∙ c.if-runs_into.false))
+loop-j-preserved c = let l = c.loop-j in let a = c.args in (l.invariant ∙ well_turn a.m a.t.now l.j c.loop-j-test.true _ c.get_target-r.ensures false true false (ne_eqb _ _ c.if-r-eq0.false) (sym c.has_room.ensures ∙ not-false _ (ap not c.if-not-has_room.false)) (sym c.runs_into.ensures ∙ c.if-runs_into.false))
 
 pub returns : goal.returns
-returns c = let l = c.loop-j in let a = c.args in sym (l.invariant.1 ∙ well_done a.m a.t.now l.j c.loop-j-test.false)
+returns c = let l = c.loop-j in let a = c.args in sym (l.invariant ∙ well_done a.m a.t.now l.j c.loop-j-test.false)

@@ -6,4 +6,4 @@ use Prim.Native.Nat.{◌-◌, ◌≤◌}
 use Rattle.tracker.proofs.taken.well_ranges.Given as goal
 
 abbrev pub invariant-loop-j : goal.invariant-loop-j
-invariant-loop-j l = (l.j ≤ l.m) × (well_ranges (ranges l.m l.t) ≡ well_ranges (drop l.j (ranges l.m l.t)))
+invariant-loop-j l = well_ranges (ranges l.m l.t) ≡ well_ranges (drop l.j (ranges l.m l.t))

@@ -6,15 +6,15 @@ use mathlib.Core.Path.{sym, subst}
 use native.Mathlib.Omega.{arith}
 use Rattle.tracker.proofs.targets.add_part.Goals as goal
 
-pub inc-first-requires : goal.inc-first-requires
-inc-first-requires c = let a = c.args in part_first a.row a.from a.to c.requires.1 c.if-from-to.true c.requires.2
+pub inc-requires : goal.inc-requires
+inc-requires c = let a = c.args in part_first a.row a.from a.to c.requires.1 c.if-from-to.true c.requires.2
 
 pub add_target-requires : goal.add_target-requires
-add_target-requires c = let a = c.args in subst (λ (rs : List Range). Adds a.at a.k rs a.t.now) (part_is a.row a.from a.to c.inc-first.result c.if-from-to.true c.inc-first.ensures) c.requires.0
+add_target-requires c = let a = c.args in subst (λ (rs : List Range). Adds a.at a.k rs a.t.now) (part_is a.row a.from a.to c.inc.result c.if-from-to.true c.inc.ensures) c.requires.0
 
 pub returns-then-from-to : goal.returns-then-from-to
 returns-then-from-to c = let a = c.args in let w = c.add_target in
-    subst (λ (rs : List Range). Added a.at a.k rs w.result a.t.now w.new.t) (sym (part_is a.row a.from a.to c.inc-first.result c.if-from-to.true c.inc-first.ensures)) w.ensures
+    subst (λ (rs : List Range). Added a.at a.k rs w.result a.t.now w.new.t) (sym (part_is a.row a.from a.to c.inc.result c.if-from-to.true c.inc.ensures)) w.ensures
 
 pub returns-else-from-to : goal.returns-else-from-to
 returns-else-from-to c = let a = c.args in nothing_added a.at a.k a.row a.from a.to a.t.now (omega (arith, c.if-from-to.false))
