@@ -1,27 +1,17 @@
--- the pairs of a version, as a loop over them meets them
-use mathlib.Core.Path.{◌≡◌, sym}
-use mathlib.Core.Bool.{true, false, and-eq-true_iff}
+-- the pairs of a version, as a chain over their numbers meets them
+use mathlib.Core.Path.{◌≡◌, refl, sym, ap}
+use mathlib.Core.Bool.{true, ◌&&◌, and-eq-true_iff}
 use mathlib.Core.List.{List}
 use Prim.Native.Nat.{ℕ, zero, suc, ◌+◌, ◌-◌, ◌≤◌, ◌<◌}
 use native.Mathlib.Omega.{arith}
 use native.Mathlib.Numerals.{add-one, unary_clauses}
+use Rattle.std.specs.List.{list_all, range_with_len}
 use Rattle.script.specs.Version.{pair_count, pair_of, is_id, pairs_from, is_version}
 
-module _ (w : List ℕ) (n i : ℕ) where
-  step : i < n → n - i ≡ suc (n - (i + 1))
-  step h = omega arith
-
-  pub pairs_turn : i < n → is_id (pair_of w i) ≡ true → pairs_from w i (n - i) ≡ pairs_from w (i + 1) (n - (i + 1))
-  unfolding pairs_from
-  pairs_turn h e = rw (step h, e, add-one)
-
-  pub pairs_stop : i < n → is_id (pair_of w i) ≡ false → pairs_from w i (n - i) ≡ false
-  unfolding pairs_from
-  pairs_stop h e = rw (step h, e)
-
-  pub pairs_done : n ≤ i → pairs_from w i (n - i) ≡ true
-  unfolding pairs_from
-  pairs_done h = let e : n - i ≡ 0 = omega arith in rw e
+pub pairs_all : (w : List ℕ) (i n : ℕ) → list_all (λ k. is_id (pair_of w k)) (range_with_len i n) ≡ pairs_from w i n
+unfolding pairs_from
+pairs_all w i zero = refl
+pairs_all w i (suc n) = ap (λ q. is_id (pair_of w i) && q) (rw add-one (pairs_all w (suc i) n))
 
 -- ---- a version's pairs
 

@@ -1,5 +1,5 @@
 -- A version or context as a word (docs/SCRIPT.md): `-` where it is empty, else pairs PEER:COUNT with commas (44) between, in the order written.
-use Rattle.std.specs.Prelude.{ℕ, zero, suc, Bool, true, false, ◌&&◌, List, Option, None, Some, if◌then◌else◌}
+use Rattle.std.specs.Prelude.{ℕ, zero, suc, Bool, true, false, ◌&&◌, List, Option, is_some, if◌then◌else◌}
 use Rattle.text.specs.Ascii.{ascii}
 use Rattle.text.specs.Parts.{before, after, part, parts, same_text}
 use Rattle.span.specs.declared.ids.Id.{Id}
@@ -14,8 +14,7 @@ unfoldable pub pair_of : List ℕ → ℕ → Option Id
 pair_of w i = id_from (before 58 (part 44 i w)) (after 58 (part 44 i w))
 
 abbrev pub is_id : Option Id → Bool
-is_id None = false
-is_id (Some i) = true
+is_id o = is_some o
 
 -- whether each of the n pairs from pair i on is one
 unfoldable pub pairs_from : List ℕ → ℕ → ℕ → Bool

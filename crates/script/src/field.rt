@@ -45,6 +45,7 @@ pub fn peer(w: &[u8]) -> Option<u64>
 }
 
 // An i32.
+#[tactic(auto, using(text::proofs::NumbersLaws::int32_fits))]
 fn counter(w: &[u8]) -> Option<i32>
     ensures { result ≡ counter_of w.now }
 {
@@ -120,7 +121,7 @@ pub fn opt_status(w: &[u8]) -> Option<Option<Status>>
 }
 
 // An i16.
-#[tactic(auto, unfolding(crate::specs::Field::change_word))]
+#[tactic(auto, using(text::proofs::NumbersLaws::int16_fits), unfolding(crate::specs::Field::change_word))]
 pub fn change(w: &[u8]) -> Option<i16>
     ensures { result ≡ change_word w.now }
 {

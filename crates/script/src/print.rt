@@ -10,6 +10,7 @@ use text::puts::{put, put_decimal, put_signed};
 
 // ---- Fields
 
+#[tactic(auto, unfolding(crate::specs::Print::peer_text))]
 fn peer(out: &mut [u8], at: usize, p: u64) -> usize
     ensures { Puts at (peer_text p) out.old result out.new }
 {
@@ -37,6 +38,7 @@ pub fn id(out: &mut [u8], at: usize, i: Id) -> usize
     put_signed(out, at, i.counter)
 }
 
+#[tactic(auto, unfolding(crate::specs::Print::opt_id_text))]
 pub fn opt_id(out: &mut [u8], at: usize, o: Option<Id>) -> usize
     ensures { Puts at (opt_id_text o) out.old result out.new }
 {
@@ -64,6 +66,7 @@ pub fn status(out: &mut [u8], at: usize, s: Status) -> usize
     put_signed(out, at, i32::from(s.delete_times))
 }
 
+#[tactic(auto, unfolding(crate::specs::Print::opt_status_text))]
 pub fn opt_status(out: &mut [u8], at: usize, d: Option<Status>) -> usize
     ensures { Puts at (opt_status_text d) out.old result out.new }
 {

@@ -13,6 +13,7 @@ use mir.Facts.{to_z-of_z}
 use borrow.Author.Tests.{le-leb, ltb-true}
 use Rattle.text.specs.Numbers.{is_digit, decimal_of, numeral, int_text, negated, int_of, bits_of, signed_of, fit, fit32, fit16}
 use Rattle.text.proofs.NumeralLaws.{decimal_numeral}
+use Rattle.text.proofs.NumbersLaws.{Within}
 use Rattle.text.proofs.CutLaws.{Lacks, lacks_cons, numeral_lacks}
 
 low : (x : ℤ) → SFits w32 x → of_z w32 x < 2147483648 → of_z w32 x ≡ nat_abs x
@@ -58,11 +59,6 @@ module _ (x : ℤ) (f : SFits w32 x) {n : ℕ} (e : n ≡ nat_abs (to_z w32 (of_
 
 -- ---- reading back
 
--- a number from -(most + 1) to most
-abbrev pub Within : ℕ → ℤ → Type 0
-Within most (pos n) = n ≤ most
-Within most (negsuc n) = n ≤ most
-
 unsigned : (most : ℕ) (s : List ℕ) → Lacks 45 s → int_of most s ≡ option_map pos (decimal_of most s)
 unfolding int_of decimal_of
 unsigned most [] e = refl
@@ -86,14 +82,28 @@ fit_is : (most n : ℕ) → n ≤ most → fit most (Some n) ≡ Some n
 unfolding fit
 fit_is most n h = rw (le-leb n most h)
 
+within32 : (z : ℤ) → SFits w32 z → Within 2147483647 z
+within32 (pos n) f = omega (arith, f.sfits)
+within32 (negsuc n) f = omega (arith, f.sfits)
+
+within16 : (z : ℤ) → SFits w16 z → Within 32767 z
+within16 (pos n) f = omega (arith, f.sfits)
+within16 (negsuc n) f = omega (arith, f.sfits)
+
+pub int32_read : (z : ℤ) → SFits w32 z → int_of 2147483647 (int_text z) ≡ Some z
+int32_read z f = int_back 2147483647 z (omega arith) (within32 z f)
+
+pub int16_read : (z : ℤ) → SFits w16 z → int_of 32767 (int_text z) ≡ Some z
+int16_read z f = int_back 32767 z (omega arith) (within16 z f)
+
 -- and by its bits
 pub number_back : (n : ℕ) → n < 2 ^ 32 → fit32 (decimal_of 4294967295 (numeral n)) ≡ Some n
 number_back n h = ap fit32 (decimal_numeral 4294967295 n (omega arith) (omega arith)) ∙ fit_is 4294967295 n (omega arith)
 
 pub int32_back : (z : ℤ) → SFits w32 z → fit32 (signed_of 2147483647 (int_text z)) ≡ Some (of_z w32 z)
-int32_back (pos n) f = ap (λ o. fit32 (bits_of 2147483647 o)) (int_back 2147483647 (pos n) (omega arith) (omega (arith, f.sfits))) ∙ fit_is 4294967295 n (omega (arith, f.sfits))
-int32_back (negsuc n) f = ap (λ o. fit32 (bits_of 2147483647 o)) (int_back 2147483647 (negsuc n) (omega arith) (omega (arith, f.sfits))) ∙ fit_is 4294967295 (4294967296 - suc n) (omega arith)
+int32_back (pos n) f = ap (λ o. fit32 (bits_of 2147483647 o)) (int32_read (pos n) f) ∙ fit_is 4294967295 n (omega (arith, f.sfits))
+int32_back (negsuc n) f = ap (λ o. fit32 (bits_of 2147483647 o)) (int32_read (negsuc n) f) ∙ fit_is 4294967295 (4294967296 - suc n) (omega arith)
 
 pub int16_back : (z : ℤ) → SFits w16 z → fit16 (signed_of 32767 (int_text z)) ≡ Some (of_z w16 z)
-int16_back (pos n) f = ap (λ o. fit16 (bits_of 32767 o)) (int_back 32767 (pos n) (omega arith) (omega (arith, f.sfits))) ∙ fit_is 65535 n (omega (arith, f.sfits))
-int16_back (negsuc n) f = ap (λ o. fit16 (bits_of 32767 o)) (int_back 32767 (negsuc n) (omega arith) (omega (arith, f.sfits))) ∙ fit_is 65535 (65536 - suc n) (omega arith)
+int16_back (pos n) f = ap (λ o. fit16 (bits_of 32767 o)) (int16_read (pos n) f) ∙ fit_is 65535 n (omega (arith, f.sfits))
+int16_back (negsuc n) f = ap (λ o. fit16 (bits_of 32767 o)) (int16_read (negsuc n) f) ∙ fit_is 65535 (65536 - suc n) (omega arith)

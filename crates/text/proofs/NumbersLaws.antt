@@ -2,15 +2,15 @@
 use mathlib.Core.Path.{◌≡◌, refl, sym, ◌∙◌}
 use mathlib.Core.Bool.{Bool, true, false, cond, ◌&&◌, and-eq-true_iff, false≢true}
 use mathlib.Core.List.{List, [], ◌∷◌}
-use Rattle.std.specs.Prelude.{Option, None, Some, option_map, pos}
+use Rattle.std.specs.Prelude.{Option, None, Some, option_map, ℤ, pos, negsuc}
 use Prim.Native.Nat.{ℕ, zero, suc, ◌+◌, ◌-◌, ◌*◌, ◌≤◌, ◌<◌}
 use native.Mathlib.Omega.{arith}
 use native.Mathlib.Numerals.{add-one}
 use borrow.Author.Tests.{le-leb, lt-leb, leb-true}
-use Rattle.std.proofs.Common.{◌^◌, ◌-ℤ◌, neg_ℤ}
+use Rattle.std.proofs.Common.{◌^◌, ◌-ℤ◌, neg_ℤ, subst}
 use Rattle.std.proofs.Math.IntN.{+ℤ_idl}
 use Rattle.std.proofs.lemmas.Int.{to_z_pos, to_z-of_z}
-use mir.Syntax.{w64}
+use mir.Syntax.{w16, w32, w64}
 use mir.Val.{to_z, of_z, SFits}
 use lib.Dec.{leb, eqb}
 use Rattle.std.specs.Str.{bytes_eq}
@@ -111,3 +111,36 @@ pub signed_plus : (most : ℕ) (s : List ℕ) (n : Option ℕ) → bytes_eq (tak
 unfolding int_of decimal_of
 signed_plus most [] n h e = rw (← e)
 signed_plus most (b ∷ s) n h e = rw (sym (and-true (eqb b 45)) ∙ h, e)
+
+-- a number from -(most + 1) to most
+abbrev pub Within : ℕ → ℤ → Type 0
+Within most (pos n) = n ≤ most
+Within most (negsuc n) = n ≤ most
+
+-- a signed number that is read is one of those
+module _ (most : ℕ) (z : ℤ) where
+  plus_within : (o : Option ℕ) → ((n : ℕ) → o ≡ Some n → n ≤ most) → option_map pos o ≡ Some z → Within most z
+  plus_within None h e = absurd (let y : ◌≡◌ {A = ℕ} 0 1 = cc in omega arith)
+  plus_within (Some n) h e = let p : pos n ≡ z = cc in subst (Within most) p (h n refl)
+
+  minus_within : (o : Option ℕ) → ((n : ℕ) → o ≡ Some n → n ≤ most + 1) → negated o ≡ Some z → Within most z
+  minus_within None h e = absurd (let y : ◌≡◌ {A = ℕ} 0 1 = cc in omega arith)
+  minus_within (Some zero) h e = let p : pos 0 ≡ z = cc in subst (Within most) p (omega arith)
+  minus_within (Some (suc n)) h e = let p : negsuc n ≡ z = cc in subst (Within most) p (let l : suc n ≤ most + 1 = h (suc n) refl in omega arith)
+
+  pub int_within : (s : List ℕ) → int_of most s ≡ Some z → Within most z
+  unfolding int_of
+  int_within [] e = absurd (let y : ◌≡◌ {A = ℕ} 0 1 = cc in omega arith)
+  int_within (b ∷ s) e = go (eqb b 45) e
+    where
+      go : (q : Bool) → cond q (negated (decimal_of (most + 1) s)) (option_map pos (decimal_of most (b ∷ s))) ≡ Some z → Within most z
+      go true f = minus_within (decimal_of (most + 1) s) (λ n g. decimal_most (most + 1) n s g) f
+      go false f = plus_within (decimal_of most (b ∷ s)) (λ n g. decimal_most most n (b ∷ s) g) f
+
+pub int32_fits : (s : List ℕ) (z : ℤ) → int_of 2147483647 s ≡ Some z → SFits w32 z
+int32_fits s (pos n) e = let h : n ≤ 2147483647 = int_within 2147483647 (pos n) s e in record { sfits = omega arith }
+int32_fits s (negsuc n) e = let h : n ≤ 2147483647 = int_within 2147483647 (negsuc n) s e in record { sfits = omega arith }
+
+pub int16_fits : (s : List ℕ) (z : ℤ) → int_of 32767 s ≡ Some z → SFits w16 z
+int16_fits s (pos n) e = let h : n ≤ 32767 = int_within 32767 (pos n) s e in record { sfits = omega arith }
+int16_fits s (negsuc n) e = let h : n ≤ 32767 = int_within 32767 (negsuc n) s e in record { sfits = omega arith }

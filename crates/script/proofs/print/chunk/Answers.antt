@@ -7,7 +7,7 @@ use Rattle.script.proofs.print.chunk.Goals as goal
 pub returns-in-Text : goal.returns-in-Text
 unfolding value_text
 returns-in-Text c = let a = c.args in
-    rw (sym c.value.ensures ∙ c.in-Text.is) (puts_then a.at (named_text (ascii " text") _) (number_text _) a.out.now c.named-at.ensures c.number.ensures)
+    rw (sym c.value.ensures ∙ c.in-Text.is) (puts_then a.at (named_text (ascii " text") _) (number_text _) a.out.now c.named-at.ensures (rw c.from.ensures at c.number.ensures))
 
 pub returns-in-Start : goal.returns-in-Start
 unfolding value_text

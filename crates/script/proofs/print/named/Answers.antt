@@ -4,4 +4,4 @@ use Rattle.script.proofs.print.named.Goals as goal
 
 pub returns : goal.returns
 unfolding named_text
-returns c = let a = c.args in puts_then a.at a.name.now (number_text a.n) a.out.now c.put-at.ensures c.number.ensures
+returns c = let a = c.args in puts_then a.at a.name.now (number_text a.n) a.out.now c.put-at.ensures (rw c.from.ensures at c.number.ensures)
