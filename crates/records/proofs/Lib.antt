@@ -1,4 +1,4 @@
-pub mod Starts
+pub mod Answered
 pub mod Stands
 pub mod Columned
 mod Tests
