@@ -29,9 +29,6 @@ pub record Counted (n : ℕ) (s : List ℕ) (i sum : ℕ) : Type 0 where
   pub small : sum ≤ i * 4294967295
   pub is : length (expand (rows n s)) ≡ sum + length (expand (drop i (rows n s)))
 
-pub count_start : (n : ℕ) (s : List ℕ) → Counted n s 0 0
-count_start n s = record { low = omega arith; small = omega arith; is = sym (zero-add (length (expand (rows n s)))) }
-
 module _ (n : ℕ) (s : List ℕ) (i sum : ℕ) (v : Counted n s i sum) where
   pub count_turn : i < n → (k : ℕ) → k ≡ len_span (row_at s (i * 72)) → k < 4294967296 → Counted n s (i + 1) (sum + k)
   count_turn h k e f =
@@ -45,17 +42,6 @@ module _ (n : ℕ) (s : List ℕ) (i sum : ℕ) (v : Counted n s i sum) where
   count_done h = let e : length (expand (drop i (rows n s))) ≡ 0 = ap (λ (l : List FugueSpan). length (expand l)) (row_none n s i h) in omega (arith, v.is, e)
 
 -- ---- origins
-
-module _ (n : ℕ) (s : List ℕ) (us : List FugueSpan) (i : ℕ) where
-  pub origin_turn : i < n → (t u : Bool) → named (row_at s (i * 72)).origin_left us ≡ t → named (row_at s (i * 72)).origin_right us ≡ u → origins_named (drop i (rows n s)) us ≡ ((t && u) && origins_named (drop (i + 1) (rows n s)) us)
-  unfolding origins_named
-  origin_turn h t u e f =
-      ap (λ (l : List FugueSpan). origins_named l us) (row_drop n s i h) ∙
-      ap₂ (λ (a b : Bool). (a && b) && origins_named (drop (i + 1) (rows n s)) us) e f
-
-  pub origin_done : n ≤ i → origins_named (drop i (rows n s)) us ≡ true
-  unfolding origins_named
-  origin_done h = ap (λ (l : List FugueSpan). origins_named l us) (row_none n s i h)
 
 pub named_at : (o : OptId) (i : Id) (us : List FugueSpan) → o ≡ At i → mem_id o us ≡ named o us
 unfolding named

@@ -223,24 +223,6 @@ module _ (f : SetFuture) (k : ℤ) (u : FugueSpan) (base : Status) (now : Bool) 
   unfolding change_status
   fresh = ap (λ (b : Bool). status b (pos 0)) (g ∙ ap (λ (s : Status). set_future f s.future) e)
 
-  pub bare-diff : diff ≡ true → with_state u u.status (Opt.Some (status now (pos 0))) u.real_id ≡ bare diff (update_unit f k diff u)
-  unfolding bare update_unit with_state
-  bare-diff d =
-      ap (λ (t : Status). with_state u u.status (Opt.Some t) u.real_id) fresh ∙ go diff d (change_status f k (base_of diff u))
-    where
-      go : (b : Bool) → b ≡ true → (s : Status) → with_state u u.status (Opt.Some (uncounted s)) u.real_id ≡ bare b (cond b (with_state u u.status (Opt.Some s) u.real_id) (with_state u s u.diff_status u.real_id))
-      go true q s = refl
-      go false q s = absurd (true≢false (sym q))
-
-  pub bare-status : diff ≡ false → with_state u (status now (pos 0)) u.diff_status u.real_id ≡ bare diff (update_unit f k diff u)
-  unfolding bare update_unit with_state
-  bare-status d =
-      ap (λ (t : Status). with_state u t u.diff_status u.real_id) fresh ∙ go diff d (change_status f k (base_of diff u))
-    where
-      go : (b : Bool) → b ≡ false → (s : Status) → with_state u (uncounted s) u.diff_status u.real_id ≡ bare b (cond b (with_state u u.status (Opt.Some s) u.real_id) (with_state u s u.diff_status u.real_id))
-      go true q s = absurd (true≢false q)
-      go false q s = refl
-
 -- the count of a changed piece
 pub times_changed : (f : SetFuture) (k : ℤ) (diff : Bool) (u : FugueSpan) → (base_of diff u).delete_times +ℤ k ≡ (base_of diff (update_unit f k diff u)).delete_times
 unfolding base_of update_unit with_state change_status
@@ -255,22 +237,9 @@ pub joins_by : (a b : Exact) (t u : Bool) → eq_z a.times b.times ≡ t → joi
 unfolding joins_exact
 joins_by a b t u p q = rw (p, q)
 
-pub follows_by : (t : Tail) (x : Exact) (a b : Bool) → ltb 0 t.rows ≡ a → joins_exact t.last x ≡ b → (a && b) ≡ follows t x
-unfolding follows
-follows_by t x a b p q = rw (p, q)
-
 pub step_by_lem : (t : Tail) (x : Exact) (b : Bool) → follows t x ≡ b → record { rows = cond b t.rows (t.rows + 1); last = x } ≡ step_of t x
 unfolding step_of
 step_by_lem t x b p = rw p
-
-module _ (diff : Bool) (x : FugueSpan) where
-  pub bare_other : diff ≡ true → (o : OptStatus) → o ≡ uncounted_diff x.diff_status → with_state x x.status o x.real_id ≡ bare diff x
-  unfolding bare
-  bare_other d o e = ap (λ (z : OptStatus). with_state x x.status z x.real_id) e ∙ ap (λ (b : Bool). with_state x (cond b x.status (uncounted x.status)) (cond b (uncounted_diff x.diff_status) x.diff_status) x.real_id) (sym d)
-
-  pub bare_own : diff ≡ false → with_state x (status x.status.future (pos 0)) x.diff_status x.real_id ≡ bare diff x
-  unfolding bare
-  bare_own d = ap (λ (b : Bool). with_state x (cond b x.status (uncounted x.status)) (cond b (uncounted_diff x.diff_status) x.diff_status) x.real_id) (sym d)
 
 -- the pieces of a row
 module _ (u : Update) (t : Tail) (s : FugueSpan) (i j : ℕ) where

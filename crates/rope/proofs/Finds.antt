@@ -20,17 +20,6 @@ use Rattle.rope.proofs.Rights.{row_drop, row_none}
 
 -- ---- the loop
 
-module _ (n : ℕ) (s : List ℕ) (o : OptId) (i : ℕ) where
-  pub find_turn : i < n → (f : Offset) → offset_of (row_at s (i * 72)) o ≡ f → find_in (drop i (rows n s)) o i ≡ find_by f i (find_in (drop (i + 1) (rows n s)) o (i + 1))
-  unfolding find_in
-  find_turn h f e =
-      ap (λ (l : List FugueSpan). find_in l o i) (row_drop n s i h) ∙
-      ap (λ (g : Offset). find_by g i (find_in (drop (i + 1) (rows n s)) o (i + 1))) e
-
-  pub find_done : n ≤ i → find_in (drop i (rows n s)) o i ≡ None
-  unfolding find_in
-  find_done h = ap (λ (l : List FugueSpan). find_in l o i) (row_none n s i h)
-
 -- ---- the units
 
 -- an id of one of the spans is one of the units'

@@ -26,24 +26,9 @@ use Rattle.rope.specs.Spans.{gap, offset_of, is_at, covered}
 -- ---- by the code's tests
 
 module _ (s : FugueSpan) (o : OptId) (i : Id) (is : o ≡ At i) where
-  pub off_other : (s.id.peer ≡ i.peer → ⊥) → None ≡ offset_of s o
-  unfolding offset_of
-  off_other n = rw (is, ne_eqb s.id.peer i.peer n)
-
   pub off_peer : s.id.peer ≡ i.peer → gap s.id.counter i.counter (len_span s) ≡ offset_of s o
   unfolding offset_of
   off_peer e = rw (is, eq-eqb s.id.peer i.peer e)
-
-pub gap_neg : (y z : ℤ) (n : ℕ) → None ≡ counter_of y → None ≡ gap y z n
-unfolding gap
-gap_neg (pos k) z n e = let q : ◌≡◌ {A = ℕ} 0 1 = cc in absurd (omega arith)
-gap_neg (negsuc k) z n e = refl
-
-pub gap_neg2 : (y z : ℤ) (n : ℕ) → None ≡ counter_of z → None ≡ gap y z n
-unfolding gap
-gap_neg2 y (pos k) n e = let q : ◌≡◌ {A = ℕ} 0 1 = cc in absurd (omega arith)
-gap_neg2 (pos a) (negsuc k) n e = refl
-gap_neg2 (negsuc a) (negsuc k) n e = refl
 
 pub gap_by : (y z : ℤ) (a b n : ℕ) → Some a ≡ counter_of y → Some b ≡ counter_of z → cond (leb a b && ltb (b - a) n) (Some (b - a)) None ≡ gap y z n
 unfolding gap
@@ -53,12 +38,6 @@ gap_by (negsuc k) z a b n e f = let q : ◌≡◌ {A = ℕ} 0 1 = cc in absurd (
 
 pub gap_yes : (a b n : ℕ) → a ≤ b → b - a < n → Some (b - a) ≡ cond (leb a b && ltb (b - a) n) (Some (b - a)) None
 gap_yes a b n h k = rw (le-leb a b h, lt-ltb (b - a) n k)
-
-pub gap_past : (a b n : ℕ) → a ≤ b → n ≤ b - a → None ≡ cond (leb a b && ltb (b - a) n) (Some (b - a)) None
-gap_past a b n h k = rw (le-leb a b h, le-ltb (b - a) n k)
-
-pub gap_less : (a b n : ℕ) → b < a → None ≡ cond (leb a b && ltb (b - a) n) (Some (b - a)) None
-gap_less a b n h = rw (lt-leb a b h)
 
 -- ---- what it says of the units
 

@@ -39,13 +39,10 @@ pub fn sum(a: i16, b: i16) -> i32
 pub fn uncounted(diff: Option<Status>) -> Option<Status>
     ensures { result ≡ uncounted_diff diff }
 {
-    match diff {
-        None => None,
-        Some(status) => Some(Status {
-            delete_times: 0,
-            ..status
-        }),
-    }
+    diff.map(|status| Status {
+        delete_times: 0,
+        ..status
+    })
 }
 
 // A span without the count.

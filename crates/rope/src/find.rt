@@ -20,11 +20,7 @@ pub fn offset_of(row: FugueSpan, o: Option<Id>) -> Option<u32>
     }
     let first = counter_of(row.id.counter)?;
     let offset = counter_of(id.counter)?.checked_sub(first)?;
-    if offset < row.rle_len() {
-        Some(offset)
-    } else {
-        None
-    }
+    (offset < row.rle_len()).then_some(offset)
 }
 
 // Whether one of a span's units has it.
