@@ -1,10 +1,8 @@
 -- the loops of the check over units and origins
 use Prim.Native.Nat.{ℕ, ◌+◌, ◌*◌, ◌<◌, ◌≤◌}
-use mathlib.Core.Path.{◌≡◌, sym, ap, ap₂, ◌∙◌}
-use mathlib.Core.Bool.{Bool, true, ◌&&◌}
+use mathlib.Core.Path.{◌≡◌, sym, ap, ◌∙◌}
 use mathlib.Core.List.{List, ◌∷◌}
 use native.Mathlib.Omega.{arith}
-use native.Mathlib.Nat.{zero-add}
 use lib.ListN.{length, drop, length-append}
 use Rattle.span.specs.declared.ids.Id.{Id}
 use Rattle.span.specs.Maybe.{OptId}
@@ -15,7 +13,7 @@ use Rattle.span.specs.Units.{units_of, expand}
 use Rattle.span.proofs.ForRope.{units_length}
 use Rattle.store.specs.Row.{rows, row_at}
 use Rattle.units.specs.Place.{mem_id}
-use Rattle.units.specs.Store.{named, origins_named}
+use Rattle.units.specs.Store.{named}
 use Rattle.rope.proofs.Rights.{row_drop, row_none}
 
 pub length_span : (s : FugueSpan) (l : List FugueSpan) → length (expand (s ∷ l)) ≡ len_span s + length (expand l)

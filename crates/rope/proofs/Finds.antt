@@ -1,14 +1,12 @@
 -- the search by id, row by row, and what it says of the units
-use Prim.Native.Nat.{ℕ, ◌+◌, ◌*◌, ◌<◌, ◌≤◌}
+use Prim.Native.Nat.{ℕ, ◌+◌}
 use mathlib.Core.Path.{◌≡◌, refl, sym, ap, ◌∙◌}
 use mathlib.Core.Bool.{Bool, ◌||◌}
 use mathlib.Core.List.{List, [], ◌∷◌}
-use lib.ListN.{drop}
 use Rattle.span.specs.Maybe.{OptId}
 use Rattle.span.specs.declared.span.FugueSpan.{FugueSpan}
 use Rattle.span.specs.Span.{span_code}
 use Rattle.span.specs.Units.{units_of, expand}
-use Rattle.store.specs.Row.{rows, row_at}
 use Rattle.rope.specs.Maybe.{Offset}
 use Rattle.std.specs.Option.{is_some}
 use Rattle.std.specs.Prelude.{Some, None}
@@ -16,7 +14,6 @@ use Rattle.units.specs.Place.{mem_id}
 use Rattle.rope.specs.Spans.{offset_of, is_at, covered, find_by, find_in, AllOk}
 use Rattle.rope.proofs.Offsets.{covers_units}
 use Rattle.rope.proofs.Lists.{mem_append}
-use Rattle.rope.proofs.Rights.{row_drop, row_none}
 
 -- ---- the loop
 
