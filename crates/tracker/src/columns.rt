@@ -12,8 +12,8 @@ fn put_column(v: &mut [u8], i: usize, peer: u64, bits: u32)
     ensures { pairs (i + 1) v.new ≡ pairs i v.old ++ zipped (peer ∷ []) (bits ∷ []) }
 {
     let at = i * 12;
-    words::put_u64(v, at, peer);
-    words::put_u32(v, at + 8, bits);
+    words::put(v, at, peer.to_le_bytes());
+    words::put(v, at + 8, bits.to_le_bytes());
 }
 
 // The version of the columns as pairs. The answer is their number, and one more than the peers that a history can have where it is no version.

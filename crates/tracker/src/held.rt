@@ -19,6 +19,7 @@ use crate::version::{self, below, count_of, rising};
 use span::ids::Id;
 use span::refusal::Refusal;
 use store::limits::PEERS;
+use words::bytes_at;
 
 // ---------------------------------------------------------------- counts
 
@@ -27,7 +28,7 @@ fn peer_at(e: &[u8], i: usize) -> u64
     requires { i * 256 + 256 ≤ length e.now }
     ensures { result ≡ (edit_in (drop (i * 256) e.now)).id.peer }
 {
-    words::get_u64(e, i * 256)
+    u64::from_le_bytes(bytes_at(e, i * 256))
 }
 
 fn row_size(row: &[u8]) -> u32

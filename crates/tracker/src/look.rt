@@ -16,6 +16,7 @@ use crate::row::{Target, get_target};
 use crate::version::{below, count_of};
 use span::ids::{Id, UNKNOWN_PEER};
 use span::status::Status;
+use words::bytes_at;
 
 // A status, and how many units have it.
 #[derive(Clone, Copy)]
@@ -111,14 +112,17 @@ pub(crate) fn edit_id(e: &[u8], i: usize) -> Id
     ensures { result ≡ (edit_in (drop (i * 256) e.now)).id }
 {
     let at = i * 256;
-    store::id_of(words::get_u64(e, at), words::get_u32(e, at + 16))
+    store::id_of(
+        u64::from_le_bytes(bytes_at(e, at)),
+        u32::from_le_bytes(bytes_at(e, at + 16)),
+    )
 }
 
 fn edit_took(e: &[u8], i: usize) -> u32
     requires { i * 256 + 256 ≤ length e.now }
     ensures { result ≡ took_in (drop (i * 256) e.now) }
 {
-    words::get_u32(e, i * 256 + 44)
+    u32::from_le_bytes(bytes_at(e, i * 256 + 44))
 }
 
 // Whether the edit in row i, whose target ranges begin at range `at`, is in the version and took a unit. Of an edit that took none of these units, as most

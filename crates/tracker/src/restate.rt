@@ -45,7 +45,7 @@ pub fn raise(s: &mut [u8], m: usize, k: usize)
     ensures { drop (k - m) (rows k s.new) ≡ rows m s.old }
 {
     if m < k {
-        words::shift::up(s, 0, m * 72, (k - m) * 72)
+        s.copy_within(0..m * 72, (k - m) * 72)
     }
 }
 

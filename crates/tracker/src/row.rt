@@ -10,6 +10,7 @@ ghost use Rattle.tracker.specs.Writes.{header_bytes, target_counter, HeadFits, A
 use span::chunk::RichtextChunk;
 use span::ids::Id;
 use store::limits::ROWS;
+use words::bytes_at;
 
 // A pair of a version: a peer, and how many of its counters.
 #[derive(Clone, Copy)]
@@ -45,8 +46,8 @@ pub fn get_pair(v: &[u8], i: usize) -> Pair
     ensures { to_count result ≡ pair_in (drop (i * 12) v.now) }
 {
     let at = i * 12;
-    let peer = words::get_u64(v, at);
-    let many = words::signed::get_i32(v, at + 8);
+    let peer = u64::from_le_bytes(bytes_at(v, at));
+    let many = i32::from_le_bytes(bytes_at(v, at + 8));
     Pair { peer, many }
 }
 
@@ -55,8 +56,8 @@ pub fn put_pair(v: &mut [u8], i: usize, k: Pair)
     ensures { v.new ≡ put (i * 12) (pair_bytes k) v.old }
 {
     let at = i * 12;
-    words::put_u64(v, at, k.peer);
-    words::signed::put_i32(v, at + 8, k.many);
+    words::put(v, at, k.peer.to_le_bytes());
+    words::put(v, at + 8, k.many.to_le_bytes());
 }
 
 pub fn get_target(t: &[u8], i: usize) -> Target
@@ -64,9 +65,9 @@ pub fn get_target(t: &[u8], i: usize) -> Target
     ensures { to_range result ≡ range_in (drop (i * 16) t.now) }
 {
     let at = i * 16;
-    let peer = words::get_u64(t, at);
-    let bits = words::get_u32(t, at + 8);
-    let len = words::get_u32(t, at + 12);
+    let peer = u64::from_le_bytes(bytes_at(t, at));
+    let bits = u32::from_le_bytes(bytes_at(t, at + 8));
+    let len = u32::from_le_bytes(bytes_at(t, at + 12));
     let id = store::id_of(peer, bits);
     Target { id, len }
 }
@@ -77,9 +78,9 @@ pub fn put_target(t: &mut [u8], i: usize, x: Target)
 {
     let at = i * 16;
     let bits = store::counter_bits(x.id);
-    words::put_u64(t, at, x.id.peer);
-    words::put_u32(t, at + 8, bits);
-    words::put_u32(t, at + 12, x.len);
+    words::put(t, at, x.id.peer.to_le_bytes());
+    words::put(t, at + 8, bits.to_le_bytes());
+    words::put(t, at + 12, x.len.to_le_bytes());
 }
 
 // How many target ranges fit.
@@ -112,13 +113,19 @@ pub fn get_head(e: &[u8]) -> Head
     requires { 64 ≤ length e.now }
     ensures { to_edit result (context_in e.now) ≡ edit_in e.now }
 {
-    let id = store::id_of(words::get_u64(e, 0), words::get_u32(e, 16));
-    let target = store::id_of(words::get_u64(e, 8), words::get_u32(e, 40));
-    let at = words::get_u32(e, 20);
-    let kind = words::get_u32(e, 24);
-    let lamport = words::get_u32(e, 28);
-    let first = words::get_u32(e, 32);
-    let last = words::get_u32(e, 36);
+    let id = store::id_of(
+        u64::from_le_bytes(bytes_at(e, 0)),
+        u32::from_le_bytes(bytes_at(e, 16)),
+    );
+    let target = store::id_of(
+        u64::from_le_bytes(bytes_at(e, 8)),
+        u32::from_le_bytes(bytes_at(e, 40)),
+    );
+    let at = u32::from_le_bytes(bytes_at(e, 20));
+    let kind = u32::from_le_bytes(bytes_at(e, 24));
+    let lamport = u32::from_le_bytes(bytes_at(e, 28));
+    let first = u32::from_le_bytes(bytes_at(e, 32));
+    let last = u32::from_le_bytes(bytes_at(e, 36));
     Head {
         id,
         at,
@@ -127,21 +134,21 @@ pub fn get_head(e: &[u8]) -> Head
 }
 
 // How many target ranges the row says.
-#[tactic(auto, unfolding(crate::specs::Rows::took_in))]
+#[tactic(auto, using(words::proofs::Bytes::reads), unfolding(crate::specs::Rows::took_in))]
 pub fn get_took(e: &[u8]) -> u32
     requires { 64 ≤ length e.now }
     ensures { result ≡ took_in e.now }
 {
-    words::get_u32(e, 44)
+    u32::from_le_bytes(bytes_at(e, 44))
 }
 
 // How many pairs the row says.
-#[tactic(auto, unfolding(crate::specs::Rows::pairs_in))]
+#[tactic(auto, using(words::proofs::Bytes::reads), unfolding(crate::specs::Rows::pairs_in))]
 pub fn get_pairs(e: &[u8]) -> u32
     requires { 64 ≤ length e.now }
     ensures { result ≡ pairs_in e.now }
 {
-    words::get_u32(e, 48)
+    u32::from_le_bytes(bytes_at(e, 48))
 }
 
 // The words of what an edit does: what it does not have is 0.
@@ -190,50 +197,53 @@ pub fn put_head(e: &mut [u8], i: usize, x: Head, took: u32, many: u32)
 {
     let at = i * 256;
     let w = words_of(x.act);
-    words::put_u64(e, at, x.id.peer);
-    words::put_u64(e, at + 8, w.target.peer);
-    words::put4_u32(
+    words::put(e, at, x.id.peer.to_le_bytes());
+    words::put(e, at + 8, w.target.peer.to_le_bytes());
+    words::put_all(
         e,
         at + 16,
-        store::counter_bits(x.id),
-        x.at,
-        w.kind,
-        w.lamport,
+        [
+            store::counter_bits(x.id).to_le_bytes(),
+            x.at.to_le_bytes(),
+            w.kind.to_le_bytes(),
+            w.lamport.to_le_bytes(),
+        ],
     );
-    words::put4_u32(
+    words::put_all(
         e,
         at + 32,
-        w.first,
-        w.last,
-        store::counter_bits(w.target),
-        took,
+        [
+            w.first.to_le_bytes(),
+            w.last.to_le_bytes(),
+            store::counter_bits(w.target).to_le_bytes(),
+            took.to_le_bytes(),
+        ],
     );
-    words::put4_u32(e, at + 48, many, 0, 0, 0);
+    words::put_all(e, at + 48, [many.to_le_bytes(), [0; 4], [0; 4], [0; 4]]);
 }
 
 // The header of the edits: how many there are, and the units of the placeholder.
-#[tactic(auto, unfolding(crate::specs::Rows::edit_count))]
 pub fn edit_count(e: &[u8]) -> u64
     requires { 64 ≤ length e.now }
     ensures { result ≡ edit_count e.now }
 {
-    words::get_u64(e, 0)
+    u64::from_le_bytes(bytes_at(e, 0))
 }
 
-#[tactic(auto, unfolding(crate::specs::Rows::placeholder_in))]
 pub fn placeholder(e: &[u8]) -> u64
     requires { 64 ≤ length e.now }
     ensures { result ≡ placeholder_in e.now }
 {
-    words::get_u64(e, 8)
+    u64::from_le_bytes(bytes_at(e, 8))
 }
 
 // Another number of edits; the rest of the header stays.
+#[tactic(auto, using(words::proofs::Bytes::writes))]
 pub fn set_edit_count(e: &mut [u8], n: u64)
     requires { 64 ≤ length e.old }
     ensures { e.new ≡ put 0 (bytes_of 8 n) e.old }
 {
-    words::put_u64(e, 0, n)
+    words::put(e, 0, n.to_le_bytes())
 }
 
 // A whole header, for a history that is opened.
@@ -241,8 +251,17 @@ pub fn put_header(e: &mut [u8], count: u64, placeholder: u64)
     requires { 64 ≤ length e.old }
     ensures { e.new ≡ put 0 (header_bytes count placeholder) e.old }
 {
-    words::put4_u64(e, 0, count, placeholder, 0, 0);
-    words::put4_u64(e, 32, 0, 0, 0, 0);
+    words::put_all(
+        e,
+        0,
+        [
+            count.to_le_bytes(),
+            placeholder.to_le_bytes(),
+            [0; 8],
+            [0; 8],
+        ],
+    );
+    words::put_all(e, 32, [[0; 8]; 4]);
 }
 
 // n bytes of x from `from` on, from `at` on.
