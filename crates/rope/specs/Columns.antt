@@ -131,7 +131,7 @@ pub record Diffed (code : ℕ) (spans : List FugueSpan) (r : DiffAnswer) (k a b 
   pub counter : c2 ≡ column_of code (λ (x : EntryNumbers). x.counter) (entries spans) c
   pub lamport : l2 ≡ column_of code (λ (x : EntryNumbers). x.lamport) (entries spans) l
 
--- 01's number of an answer: 0 is done
+-- the number of an answer: 0 is done
 abbrev pub diff_number : DiffAnswer → ℕ
 diff_number (Ok n) = 0
 diff_number (Err e) = number_of e

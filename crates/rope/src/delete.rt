@@ -1,4 +1,4 @@
-// The delete of visible units (000 `delete`).
+// The delete of visible units.
 ghost use Rattle.std.specs.Prelude.{◌≡◌, true, ◌≤◌, ◌<◌, drop};
 ghost use Rattle.span.specs.Refusal.{code_of};
 ghost use Rattle.span.specs.Units.{expand, join};
@@ -105,8 +105,9 @@ pub fn delete_some(
 {
     let n = header::count(s) as usize;
     let most = header::room(s);
-    refuse_delete(&s[72..], n, d, most, out.len() / 72, reversed)?;
-    let k = report(&s[72..], n, out, d, reversed);
+    let rows = &s[72..];
+    refuse_delete(rows, n, d, most, out.len() / 72, reversed)?;
+    let k = report(rows, n, out, d, reversed);
     write_delete(s, n, d);
     Ok(k)
 }

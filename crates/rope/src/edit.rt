@@ -46,9 +46,10 @@ pub fn insert_span(s: &mut [u8], pos: u32, x: FugueSpan) -> Result<(), Refusal>
     ensures { EditedIn (insert_code (room s.old) (spans_of s.old) pos x) (insert_list s.old pos x) (code_of result) s.old s.new }
 {
     let n = header::count(s) as usize;
-    let sum = units(&s[72..], n);
-    first_code(&s[72..], n, sum, pos, x)?;
-    let p = plan_insert(&s[72..], n, sum, pos, x);
+    let rows = &s[72..];
+    let sum = units(rows, n);
+    first_code(rows, n, sum, pos, x)?;
+    let p = plan_insert(rows, n, sum, pos, x);
     if header::room(s) < p.rows(n) {
         return Err(Refusal::Room);
     }

@@ -1,4 +1,4 @@
-// The update of an id range (000 `update`).
+// The update of an id range.
 ghost use Rattle.std.specs.Prelude.{◌≡◌, true, ◌*◌, ◌≤◌, ◌<◌, pos, ◌+ℤ◌, length, drop};
 ghost use Rattle.span.specs.Refusal.{code_of};
 ghost use Rattle.span.specs.Span.{span_code};

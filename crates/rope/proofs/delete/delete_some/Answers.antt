@@ -9,23 +9,17 @@ use Rattle.rope.proofs.delete.delete_some.Goals as goal
 pub count-n-requires : goal.count-n-requires
 count-n-requires c = state_head c.args.s.now c.requires.0
 
-pub slice_bounds-refuse_delete-count : goal.slice_bounds-refuse_delete-count
-slice_bounds-refuse_delete-count c = state_head c.args.s.now c.requires.0
+pub slice_bounds-rows-count : goal.slice_bounds-rows-count
+slice_bounds-rows-count c = state_head c.args.s.now c.requires.0
 
-pub slice_bounds-refuse_delete-start : goal.slice_bounds-refuse_delete-start
-slice_bounds-refuse_delete-start c = state_head c.args.s.now c.requires.0
+pub slice_bounds-rows-start : goal.slice_bounds-rows-start
+slice_bounds-rows-start c = state_head c.args.s.now c.requires.0
 
 pub refuse_delete-requires : goal.refuse_delete-requires
 refuse_delete-requires c = let a = c.args in some_asks a.s.now a.out.now a.d a.reversed c.requires.0 c.requires.1 c.count-n.result c.count-n.ensures c.room-most.result c.room-most.ensures (length a.out.now / 72) refl
 
 pub returns-in_err-refuse_delete : goal.returns-in_err-refuse_delete
 returns-in_err-refuse_delete c = let a = c.args in let p = err_from_is_err_and c.from_residual.result c.from_residual.ensures.1 in rw (p.1, p.2) (some_refused a.s.now a.out.now a.d a.reversed c.requires.0 c.requires.1 c.count-n.result c.count-n.ensures c.room-most.result c.room-most.ensures (length a.out.now / 72) refl _ c.in_err-refuse_delete.ensures)
-
-pub slice_bounds-report-count : goal.slice_bounds-report-count
-slice_bounds-report-count c = state_head c.args.s.now c.requires.0
-
-pub slice_bounds-report-start : goal.slice_bounds-report-start
-slice_bounds-report-start c = state_head c.args.s.now c.requires.0
 
 pub report-k-requires : goal.report-k-requires
 report-k-requires c = let a = c.args in (some_report a.s.now a.out.now a.d a.reversed c.requires.0 c.requires.1 c.count-n.result c.count-n.ensures c.room-most.result c.room-most.ensures (length a.out.now / 72) refl 0 c.in_ok-refuse_delete.ensures refl, some_room a.s.now a.out.now a.d a.reversed c.requires.0 c.requires.1 c.count-n.result c.count-n.ensures c.room-most.result c.room-most.ensures (length a.out.now / 72) refl 0 c.in_ok-refuse_delete.ensures refl)

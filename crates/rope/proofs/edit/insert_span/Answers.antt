@@ -7,20 +7,14 @@ use Rattle.rope.proofs.edit.insert_span.Goals as goal
 pub count-n-requires : goal.count-n-requires
 count-n-requires c = state_head c.args.s.now c.requires.0
 
-pub slice_bounds-units-count : goal.slice_bounds-units-count
-slice_bounds-units-count c = state_head c.args.s.now c.requires.0
+pub slice_bounds-rows-count : goal.slice_bounds-rows-count
+slice_bounds-rows-count c = state_head c.args.s.now c.requires.0
 
-pub slice_bounds-units-start : goal.slice_bounds-units-start
-slice_bounds-units-start c = state_head c.args.s.now c.requires.0
+pub slice_bounds-rows-start : goal.slice_bounds-rows-start
+slice_bounds-rows-start c = state_head c.args.s.now c.requires.0
 
 pub units-sum-requires : goal.units-sum-requires
 units-sum-requires c = state_rows c.args.s.now c.requires.0 c.count-n.result c.count-n.ensures
-
-pub slice_bounds-first_code-count : goal.slice_bounds-first_code-count
-slice_bounds-first_code-count c = state_head c.args.s.now c.requires.0
-
-pub slice_bounds-first_code-start : goal.slice_bounds-first_code-start
-slice_bounds-first_code-start c = state_head c.args.s.now c.requires.0
 
 pub first_code-requires : goal.first_code-requires
 first_code-requires c =
@@ -33,12 +27,6 @@ returns-in_err-first_code c =
     let p = err_from_is_err_and c.from_residual.result c.from_residual.ensures.1 in
     rw (p.1, p.2)
     (span_first a.s.now a.pos a.x c.requires.0 c.requires.1 c.count-n.result c.count-n.ensures c.units-sum.result c.units-sum.ensures _ c.in_err-first_code.ensures (number_not_zero _))
-
-pub slice_bounds-plan_insert-count : goal.slice_bounds-plan_insert-count
-slice_bounds-plan_insert-count c = state_head c.args.s.now c.requires.0
-
-pub slice_bounds-plan_insert-start : goal.slice_bounds-plan_insert-start
-slice_bounds-plan_insert-start c = state_head c.args.s.now c.requires.0
 
 pub plan_insert-p-requires : goal.plan_insert-p-requires
 plan_insert-p-requires c =
