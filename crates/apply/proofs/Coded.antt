@@ -9,9 +9,7 @@ use lib.ListN.{length}
 use borrow.Author.Tests.{leb-true, eqb-true, eqb-false, eq-eqb, ne_eqb}
 use Rattle.words.specs.Le.{put}
 use Rattle.span.specs.Answer.{lower}
-use Rattle.span.specs.Units.{tab}
 use Rattle.span.proofs.AnswerLaws.{lower_zero, is_done, is_refused}
-use Rattle.rope.specs.Columns.{least}
 use Rattle.apply.specs.declared.item.Item.{Item}
 use Rattle.std.specs.Prelude.{Ok, Err}
 use Rattle.std.specs.Result.{IsErrAnd}
@@ -22,7 +20,7 @@ use Rattle.span.proofs.RefusalLaws.{number_not_zero, answer_err}
 use Rattle.apply.specs.Maybe.{ApplyAnswer}
 use Rattle.apply.specs.Apply.{Given, used, applied, apply_code}
 use Rattle.apply.specs.Items.{item_in, items_in, items_bytes}
-use Rattle.apply.specs.Given.{given_at, givens, given_code, item_code, lowest, new_len}
+use Rattle.apply.specs.Given.{givens, given_code, item_code, lowest, new_len}
 use Rattle.apply.specs.Called.{Allowed, Called, delta_items, delta_code}
 use Rattle.apply.proofs.Tabs.{tab-length}
 use Rattle.apply.proofs.Lows.{apply_code_lem}
@@ -31,11 +29,6 @@ use Rattle.apply.proofs.Fits.{length-applied}
 pub length_in : (s : List ℕ) → length (items_in s) ≡ length s / 24
 unfolding items_in
 length_in s = tab-length (item_in s) 0 (length s / 24)
-
--- the rows that the code counts
-pub items_all : (s : List ℕ) → lowest item_code (tab (item_in s) 0 (length s / 24)) ≡ lowest item_code (items_in s)
-unfolding items_in
-items_all s = refl
 
 pub have_used : (es : List Given) (s : List ℕ) (t : Bool) → leb (used es) (length s / 24) ≡ t → leb (used es) (length (items_in s)) ≡ t
 have_used es s t e = ap (leb (used es)) (length_in s) ∙ e
@@ -93,23 +86,20 @@ allowed_of s es old q =
 
 -- the same of old units and an output in rows, as the code asks
 module _ (o s : List ℕ) (es : List Given) where
-  rows_by : (k : ℕ) → k ≡ lower (lowest given_code es) (lowest item_code (tab (item_in s) 0 (length s / 24))) → k ≡ low_of (items_in o) es (items_in s)
-  rows_by k e = e ∙ ap (lower (lowest given_code es)) (items_all s)
+  none_of : 0 ≡ lower (lowest given_code es) (lowest item_code (items_in s)) → eqb (low_of (items_in o) es (items_in s)) 0 ≡ true
+  none_of e = eq-eqb (low_of (items_in o) es (items_in s)) 0 (sym e)
 
-  pub rows_low : (k : ℕ) → k ≡ lower (lowest given_code es) (lowest item_code (tab (item_in s) 0 (length s / 24))) → (k ≡ 0 → ⊥) → k ≡ apply_code (items_in o) es (items_in s)
-  rows_low k e n = code_low (items_in o) es (items_in s) k (rows_by k e) n
+  pub rows_low : (k : ℕ) → k ≡ lower (lowest given_code es) (lowest item_code (items_in s)) → (k ≡ 0 → ⊥) → k ≡ apply_code (items_in o) es (items_in s)
+  rows_low k e n = code_low (items_in o) es (items_in s) k e n
 
-  rows_none : 0 ≡ lower (lowest given_code es) (lowest item_code (tab (item_in s) 0 (length s / 24))) → eqb (low_of (items_in o) es (items_in s)) 0 ≡ true
-  rows_none e = eq-eqb (low_of (items_in o) es (items_in s)) 0 (sym (rows_by 0 e))
+  pub rows_few : 0 ≡ lower (lowest given_code es) (lowest item_code (items_in s)) → leb (used es) (length s / 24) ≡ false → 14 ≡ apply_code (items_in o) es (items_in s)
+  rows_few e f = code_few (items_in o) es (items_in s) (none_of e) (have_used es s false f)
 
-  pub rows_few : 0 ≡ lower (lowest given_code es) (lowest item_code (tab (item_in s) 0 (length s / 24))) → leb (used es) (length s / 24) ≡ false → 14 ≡ apply_code (items_in o) es (items_in s)
-  rows_few e f = code_few (items_in o) es (items_in s) (rows_none e) (have_used es s false f)
+  pub rows_full : 0 ≡ lower (lowest given_code es) (lowest item_code (items_in s)) → leb (used es) (length s / 24) ≡ true → leb (new_len es (length s / 24)) (length o / 24) ≡ false → 13 ≡ apply_code (items_in o) es (items_in s)
+  rows_full e f g = code_full (items_in o) es (items_in s) (none_of e) (have_used es s true f) (have_new es s o false g)
 
-  pub rows_full : 0 ≡ lower (lowest given_code es) (lowest item_code (tab (item_in s) 0 (length s / 24))) → leb (used es) (length s / 24) ≡ true → leb (new_len es (length s / 24)) (length o / 24) ≡ false → 13 ≡ apply_code (items_in o) es (items_in s)
-  rows_full e f g = code_full (items_in o) es (items_in s) (rows_none e) (have_used es s true f) (have_new es s o false g)
-
-  pub rows_done : 0 ≡ lower (lowest given_code es) (lowest item_code (tab (item_in s) 0 (length s / 24))) → leb (used es) (length s / 24) ≡ true → leb (new_len es (length s / 24)) (length o / 24) ≡ true → 0 ≡ apply_code (items_in o) es (items_in s)
-  rows_done e f g = code_done (items_in o) es (items_in s) (rows_none e) (have_used es s true f) (have_new es s o true g)
+  pub rows_done : 0 ≡ lower (lowest given_code es) (lowest item_code (items_in s)) → leb (used es) (length s / 24) ≡ true → leb (new_len es (length s / 24)) (length o / 24) ≡ true → 0 ≡ apply_code (items_in o) es (items_in s)
+  rows_done e f g = code_done (items_in o) es (items_in s) (none_of e) (have_used es s true f) (have_new es s o true g)
 
 -- ---- answers
 
@@ -131,30 +121,23 @@ called_err code e new out q =
       left = (called_refused code (number_of e) new out (number_not_zero e) q).left;
     }
 
--- ---- apply: n is the length of the shortest column
+-- ---- apply: es is what the columns say
 
-module _ (k a b p c l old out : List ℕ) (n : ℕ) (least-is : n ≡ least (length k) (length a) (length b) (length p) (length c) (length l)) where
-  abbrev all : List Given
-  all = tab (given_at k a b p c l) 0 n
-
-  all-givens : all ≡ givens k a b p c l
-  unfolding givens
-  all-givens = ap (tab (given_at k a b p c l) 0) least-is
-
-  code_is : apply_code (items_in out) all (items_in old) ≡ delta_code k a b p c l old out
+module _ (k a b p c l old out : List ℕ) (es : List Given) (es-is : es ≡ givens k a b p c l) where
+  code_is : apply_code (items_in out) es (items_in old) ≡ delta_code k a b p c l old out
   unfolding delta_code
-  code_is = ap (λ (es : List Given). apply_code (items_in out) es (items_in old)) all-givens
+  code_is = ap (λ (x : List Given). apply_code (items_in out) x (items_in old)) es-is
 
-  new_is : applied all (items_in old) ≡ delta_items k a b p c l old
+  new_is : applied es (items_in old) ≡ delta_items k a b p c l old
   unfolding delta_items
-  new_is = ap (λ (es : List Given). applied es (items_in old)) all-givens
+  new_is = ap (λ (x : List Given). applied x (items_in old)) es-is
 
-  pub delta_done : 0 ≡ apply_code (items_in out) all (items_in old) → (m : ℕ) (t : List ℕ) → (m ≡ length (applied all (items_in old))) × (t ≡ put 0 (items_bytes (applied all (items_in old))) out)
+  pub delta_done : 0 ≡ apply_code (items_in out) es (items_in old) → (m : ℕ) (t : List ℕ) → m ≡ length (applied es (items_in old)) → t ≡ put 0 (items_bytes (applied es (items_in old))) out
       → Called (delta_code k a b p c l old out) (delta_items k a b p c l old) out (Ok m) t
-  delta_done e m t w =
-      called_done (delta_code k a b p c l old out) m (delta_items k a b p c l old) out t (sym (e ∙ code_is)) (w.0 ∙ ap length new_is) (w.1 ∙ ap (λ (x : List Item). put 0 (items_bytes x) out) new_is)
+  delta_done e m t w q =
+      called_done (delta_code k a b p c l old out) m (delta_items k a b p c l old) out t (sym (e ∙ code_is)) (w ∙ ap length new_is) (q ∙ ap (λ (x : List Item). put 0 (items_bytes x) out) new_is)
 
-  pub delta_refused : (r : ApplyAnswer) (e : Refusal) → IsErrAnd r (λ (d : Refusal). d ≡ e) → number_of e ≡ apply_code (items_in out) all (items_in old)
+  pub delta_refused : (r : ApplyAnswer) (e : Refusal) → IsErrAnd r (λ (d : Refusal). d ≡ e) → number_of e ≡ apply_code (items_in out) es (items_in old)
       → Called (delta_code k a b p c l old out) (delta_items k a b p c l old) out r out
   delta_refused r e h z =
       let w = err_from_is_err_and r h in

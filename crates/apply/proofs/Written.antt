@@ -193,4 +193,4 @@ module _ (f : ℕ → Given) (n : ℕ) (o : List ℕ) (i at k : ℕ) (s0 s : Lis
 pub ruleset written = (bare_fine, bare_items, put_none)
 
 -- the steps of the loop, where a call asks for them
-pub ruleset going_steps = (going_start, going_code, going_room, rows_used, rest_low, rest_rows, rest_room)
+pub ruleset going_steps = (going_start, going_code, going_room, rows_used, rest_low, rest_rows, rest_room, rest_count)

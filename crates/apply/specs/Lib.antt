@@ -4,3 +4,4 @@ pub mod Items
 pub mod Given
 pub mod Called
 pub mod Rows
+pub mod Said

@@ -3,16 +3,15 @@ ghost use Rattle.std.specs.Prelude.{◌≡◌, ◌+◌, ◌*◌, ◌≤◌, leng
 ghost use Rattle.words.specs.Le.{put};
 ghost use Rattle.span.specs.Answer.{lower};
 ghost use Rattle.span.specs.Refusal.{code_of};
-ghost use Rattle.span.specs.Units.{tab};
-ghost use Rattle.rope.specs.Columns.{Hold};
 ghost use Rattle.apply.specs.Apply.{used, applied, apply_code};
-ghost use Rattle.apply.specs.Items.{item_in, items_in, items_bytes};
-ghost use Rattle.apply.specs.Given.{given_at, given_code, item_code, lowest, takes, gives, new_len, made, bare_span};
+ghost use Rattle.apply.specs.Items.{items_in, items_bytes};
+ghost use Rattle.apply.specs.Given.{given_code, item_code, lowest, takes, gives, new_len, made, bare_span};
+ghost use Rattle.apply.specs.Said.{said};
 ghost use Rattle.apply.specs.Called.{Allowed, Called, delta_items, delta_code};
 
-use crate::given::{check_given, given_at, gives, takes};
+use crate::columns::Columns;
+use crate::given::{check_given, gives, takes};
 use crate::item::{Item, copy_items, get_item, put_units};
-use rope::diff::shortest;
 use span::chunk::RichtextChunk;
 use span::ids::Id;
 use span::refusal::Refusal;
@@ -50,59 +49,38 @@ fn check_item(x: Item) -> Result<(), Refusal>
     }
 }
 
-// The lowest refusal among the first n entries. The caller takes n from the shortest column.
+// The lowest refusal among the entries.
 #[tactic(auto, using(crate::proofs::Lows::low_steps))]
-fn check_entries(
-    kind: &[u8],
-    a: &[u32],
-    b: &[u32],
-    peer: &[u64],
-    counter: &[u32],
-    lamport: &[u32],
-    n: usize,
-) -> Result<(), Refusal>
-    requires { Hold n kind.now a.now b.now peer.now counter.now lamport.now }
-    ensures { code_of result ≡ lowest given_code (tab (given_at kind.now a.now b.now peer.now counter.now lamport.now) 0 n) }
+fn check_entries(columns: Columns<'_>) -> Result<(), Refusal>
+    ensures { code_of result ≡ lowest given_code (said columns.entry) }
 {
     let mut outcome = Ok(());
-    for i in 0..n {
-        let entry = given_at(kind, a, b, peer, counter, lamport, i);
-        outcome = lower(outcome, check_given(entry));
+    for i in 0..columns.len {
+        outcome = lower(outcome, check_given(columns.get(i)));
     }
     outcome
 }
 
-// The lowest refusal among the first n items. The caller counts the rows that fit.
-#[tactic(auto, using(crate::proofs::Lows::low_steps))]
-fn check_items(s: &[u8], n: usize) -> Result<(), Refusal>
-    requires { n * 24 ≤ length s.now }
-    ensures { code_of result ≡ lowest item_code (tab (item_in s.now) 0 n) }
+// The lowest refusal among the old units, as many as rows fit.
+#[tactic(auto, using(crate::proofs::Lows::low_steps), unfolding(crate::specs::Items::items_in))]
+fn check_items(old: &[u8]) -> Result<(), Refusal>
+    ensures { code_of result ≡ lowest item_code (items_in old.now) }
 {
     let mut outcome = Ok(());
-    for i in 0..n {
-        outcome = lower(outcome, check_item(get_item(s, i)));
+    for i in 0..old.len() / 24 {
+        outcome = lower(outcome, check_item(get_item(old, i)));
     }
     outcome
 }
 
-// Whether the first n entries use no more than `have` old units; n as above. It stops at the first that does not fit, so that no sum grows too large.
+// Whether the entries use no more than `have` old units. It stops at the first that does not fit, so that no sum grows too large.
 #[tactic(auto, using(crate::proofs::Fits::used_steps))]
-fn used_fits(
-    kind: &[u8],
-    a: &[u32],
-    b: &[u32],
-    peer: &[u64],
-    counter: &[u32],
-    lamport: &[u32],
-    n: usize,
-    have: usize,
-) -> bool
-    requires { Hold n kind.now a.now b.now peer.now counter.now lamport.now }
-    ensures { result ≡ nat_le (used (tab (given_at kind.now a.now b.now peer.now counter.now lamport.now) 0 n)) have }
+fn used_fits(columns: Columns<'_>, have: usize) -> bool
+    ensures { result ≡ nat_le (used (said columns.entry)) have }
 {
     let mut left = have;
-    for i in 0..n {
-        let t = takes(given_at(kind, a, b, peer, counter, lamport, i));
+    for i in 0..columns.len {
+        let t = takes(columns.get(i));
         if left < t {
             return false;
         }
@@ -111,26 +89,16 @@ fn used_fits(
     true
 }
 
-// Whether the new list of `have` old units has no more than `room` units; n as above. Asked only where the old units suffice.
+// Whether the new list of `have` old units has no more than `room` units. Asked only where the old units suffice.
 #[tactic(auto, using(crate::proofs::Fits::new_steps))]
-fn new_fits(
-    kind: &[u8],
-    a: &[u32],
-    b: &[u32],
-    peer: &[u64],
-    counter: &[u32],
-    lamport: &[u32],
-    n: usize,
-    have: usize,
-    room: usize,
-) -> bool
-    requires { Hold n kind.now a.now b.now peer.now counter.now lamport.now × (used (tab (given_at kind.now a.now b.now peer.now counter.now lamport.now) 0 n) ≤ have) }
-    ensures { result ≡ nat_le (new_len (tab (given_at kind.now a.now b.now peer.now counter.now lamport.now) 0 n) have) room }
+fn new_fits(columns: Columns<'_>, have: usize, room: usize) -> bool
+    requires { used (said columns) ≤ have }
+    ensures { result ≡ nat_le (new_len (said columns.entry) have) room }
 {
     let mut left = have;
     let mut free = room;
-    for i in 0..n {
-        let g = given_at(kind, a, b, peer, counter, lamport, i);
+    for i in 0..columns.len {
+        let g = columns.get(i);
         let m = gives(g);
         if free < m {
             return false;
@@ -141,32 +109,17 @@ fn new_fits(
     left <= free
 }
 
-// What refuses the call: the lowest of all that refuse an entry or an old unit, then too few old units, then too little room. The caller takes n
-// from the shortest column.
+// What refuses the call: the lowest of all that refuse an entry or an old unit, then too few old units, then too little room.
 #[tactic(auto, using(crate::proofs::Coded::rows_codes, span::proofs::RefusalLaws::number_not_zero))]
-fn check_apply(
-    kind: &[u8],
-    a: &[u32],
-    b: &[u32],
-    peer: &[u64],
-    counter: &[u32],
-    lamport: &[u32],
-    n: usize,
-    old: &[u8],
-    out: &[u8],
-) -> Result<(), Refusal>
-    requires { Hold n kind.now a.now b.now peer.now counter.now lamport.now }
-    ensures { code_of result ≡ apply_code (items_in out.now) (tab (given_at kind.now a.now b.now peer.now counter.now lamport.now) 0 n) (items_in old.now) }
+fn check_apply(columns: Columns<'_>, old: &[u8], out: &[u8]) -> Result<(), Refusal>
+    ensures { code_of result ≡ apply_code (items_in out.now) (said columns.entry) (items_in old.now) }
 {
+    lower(check_entries(columns), check_items(old))?;
     let have = old.len() / 24;
-    lower(
-        check_entries(kind, a, b, peer, counter, lamport, n),
-        check_items(old, have),
-    )?;
-    if !used_fits(kind, a, b, peer, counter, lamport, n, have) {
+    if !used_fits(columns, have) {
         return Err(Refusal::Mismatch);
     }
-    if !new_fits(kind, a, b, peer, counter, lamport, n, have, out.len() / 24) {
+    if !new_fits(columns, have, out.len() / 24) {
         return Err(Refusal::Output);
     }
     Ok(())
@@ -205,24 +158,15 @@ fn put_given(g: Option<Entry>, old: &[u8], at: usize, out: &mut [u8], k: usize)
 
 // The new list, from the first row of the output on; the rest of it stays. The answer is how many items it has. Asked only where nothing refuses.
 #[tactic(auto, using(crate::proofs::Written::going_steps))]
-fn write_items(
-    kind: &[u8],
-    a: &[u32],
-    b: &[u32],
-    peer: &[u64],
-    counter: &[u32],
-    lamport: &[u32],
-    n: usize,
-    old: &[u8],
-    out: &mut [u8],
-) -> usize
-    requires { Hold n kind.now a.now b.now peer.now counter.now lamport.now × Allowed (tab (given_at kind.now a.now b.now peer.now counter.now lamport.now) 0 n) (items_in old.now) (length out.old) }
-    ensures { (result ≡ length (applied (tab (given_at kind.now a.now b.now peer.now counter.now lamport.now) 0 n) (items_in old.now))) × (out.new ≡ put 0 (items_bytes (applied (tab (given_at kind.now a.now b.now peer.now counter.now lamport.now) 0 n) (items_in old.now))) out.old) }
+fn write_items(columns: Columns<'_>, old: &[u8], out: &mut [u8]) -> usize
+    requires { Allowed (said columns) (items_in old.now) (length out.old) }
+    ensures count { result ≡ length (applied (said columns.entry) (items_in old.now)) }
+    ensures written { out.new ≡ put 0 (items_bytes (applied (said columns.entry) (items_in old.now))) out.old }
 {
     let mut at = 0;
     let mut k = 0;
-    for i in 0..n {
-        let g = given_at(kind, a, b, peer, counter, lamport, i);
+    for i in 0..columns.len {
+        let g = columns.get(i);
         put_given(g, old, at, out, k);
         at += takes(g);
         k += gives(g);
@@ -246,14 +190,7 @@ pub fn apply(
 ) -> Result<usize, Refusal>
     ensures { Called (delta_code kind.now a.now b.now peer.now counter.now lamport.now old.now out.old) (delta_items kind.now a.now b.now peer.now counter.now lamport.now old.now) out.old result out.new }
 {
-    let n = shortest(
-        kind.len(),
-        a.len(),
-        b.len(),
-        peer.len(),
-        counter.len(),
-        lamport.len(),
-    );
-    check_apply(kind, a, b, peer, counter, lamport, n, old, out)?;
-    Ok(write_items(kind, a, b, peer, counter, lamport, n, old, out))
+    let columns = Columns::new(kind, a, b, peer, counter, lamport);
+    check_apply(columns, old, out)?;
+    Ok(write_items(columns, old, out))
 }

@@ -5,6 +5,7 @@
 // list is proved of the three contracts (proofs/Composed), from the law on the definitions (proofs/DeltaApplies).
 #![tactic(auto)]
 
+mod columns;
 pub mod delta;
 pub mod given;
 pub mod item;

@@ -1,10 +1,12 @@
-use Rattle.apply.specs.Given.{given_at, new_len}
-use Rattle.apply.specs.Apply.{used}
+use Rattle.std.proofs.Common.{◌≡◌, ◌-◌, ◌≤◌}
+use Rattle.std.specs.Prelude.{nat_le}
 use Rattle.span.specs.Units.{tab}
-use lib.Dec.{leb}
-use mathlib.Core.Path.{◌≡◌}
-use Prim.Native.Nat.{◌-◌, ◌≤◌}
+use Rattle.apply.specs.Apply.{used}
+use Rattle.apply.specs.Given.{new_len}
+use Rattle.apply.specs.Said.{entry_at, said}
 use Rattle.apply.proofs.delta.new_fits.Given as goal
 
 abbrev pub invariant-loop-i : goal.invariant-loop-i
-invariant-loop-i l = (used (tab (given_at l.kind l.a l.b l.peer l.counter l.lamport) l.i (l.n - l.i)) ≤ l.left) × (leb (new_len (tab (given_at l.kind l.a l.b l.peer l.counter l.lamport) 0 l.n) l.have) l.room ≡ leb (new_len (tab (given_at l.kind l.a l.b l.peer l.counter l.lamport) l.i (l.n - l.i)) l.left) l.free)
+invariant-loop-i l =
+    (used (tab (entry_at l.columns) l.i (l.columns.len - l.i)) ≤ l.left)
+    × (nat_le (new_len (said l.columns) l.have) l.room ≡ nat_le (new_len (tab (entry_at l.columns) l.i (l.columns.len - l.i)) l.left) l.free)
