@@ -10,7 +10,8 @@ use Rattle.span.specs.declared.span.FugueSpan.{FugueSpan}
 use Rattle.span.proofs.AnswerLaws.{is_refused}
 use Rattle.store.specs.Header.{room}
 use Rattle.rope.specs.Maybe.{DiffAnswer}
-use Rattle.std.specs.Prelude.{Ok}
+use Rattle.std.specs.Prelude.{Ok, Err}
+use Rattle.span.specs.declared.refusal.Refusal.TheVariants as Refuse
 use Rattle.span.specs.Refusal.{refused}
 use Rattle.units.specs.declared.diff.Entry.{Entry}
 use Rattle.rope.specs.declared.diff.EntryNumbers.{EntryNumbers}
@@ -36,8 +37,8 @@ number_none : (s t e : List ℕ) (a b : Version) (most : ℕ) → is_history s t
 unfolding delta_number
 number_none s t e a b most w = sym (ap (λ (q : Bool). unless q 15 (delta_code_in (room s) (target_room t) most (history_in s t e) a b)) w)
 
-pub delta_none : (s t e : List ℕ) (a b : Version) (most : ℕ) (c1 c2 c3 c4 c5 c6 : List ℕ) → is_history s t e ≡ false → Deltas s t e a b most (refused 15) s c1 c2 c3 c4 c5 c6 c1 c2 c3 c4 c5 c6
-delta_none s t e a b most c1 c2 c3 c4 c5 c6 w = deltas_refused s t e a b most 15 c1 c2 c3 c4 c5 c6 (number_none s t e a b most w) (λ z. omega (arith, z))
+pub delta_none : (s t e : List ℕ) (a b : Version) (most : ℕ) (c1 c2 c3 c4 c5 c6 : List ℕ) → is_history s t e ≡ false → Deltas s t e a b most (Err Refuse.Store) s c1 c2 c3 c4 c5 c6 c1 c2 c3 c4 c5 c6
+delta_none s t e a b most c1 c2 c3 c4 c5 c6 w = deltas_refused s t e a b most Refuse.Store c1 c2 c3 c4 c5 c6 (number_none s t e a b most w)
 
 -- ---- a call answers and leaves what crate history says, of an output with as many places as the shortest column
 

@@ -9,14 +9,15 @@ use lib.IntN.{ℤ, pos, negsuc, ◌+ℤ◌}
 use lib.Signed.{le_z, lt_z}
 use lib.ListN.{length, drop}
 use lib.Seq.{drop-drop}
-use mir.Syntax.{w16, w32}
-use mir.Val.{SFits, to_z, bool_byte as from_bool}
-use mir.Facts.{to_z-of_z, to_z_pos}
+use mir.Syntax.{w16}
+use mir.Val.{to_z, bool_byte as from_bool}
+use mir.Facts.{to_z_pos}
 use borrow.Author.Tests.{ltb-true, ltb-false, lt-ltb, le-ltb, le-leb, lt-leb, leb-true, eq-eqb, ne_eqb}
 use Rattle.span.specs.declared.ids.Id.{Id}
 use Rattle.span.specs.declared.status.Status.{Status}
 use Rattle.span.specs.Ids.{UNKNOWN_PEER, inc_id, room, room_of}
-use Rattle.span.specs.Status.{status}
+use Rattle.std.specs.Prelude.{Option, Some, None, unsigned_abs}
+use Rattle.span.specs.Status.{status, counter_of}
 use Rattle.store.specs.Row.{bits32, bit_of, status_of}
 use Rattle.store.specs.Limits.{EDITS}
 use Rattle.units.specs.Lists.{some}
@@ -65,27 +66,36 @@ module _ (k n most len : ℕ) (h : 0 < most) where
 
 -- ---------------------------------------------------------------- counters, from c on
 
-module _ (c s n most : ℕ) (h : 0 < most) where
-  in_pos : s < 2147483648 → (m : ℕ) → in_counters (to_z w32 s) n m ≡ leb s m && ltb m (s + n)
-  unfolding in_counters
-  in_pos l m = rw (to_z_pos w32 {n = s} l)
+-- a counter that is not below zero
+from_first : (z : ℤ) (s : ℕ) → counter_of z ≡ Some s → z ≡ pos s
+from_first (pos n) s e = cc
+from_first (negsuc n) s e = absurd (some_none e)
+  where
+    some_none : {k : ℕ} → ◌≡◌ {A = Option ℕ} None (Some k) → ⊥
+    some_none ()
 
-  pub counters_before : s < 2147483648 → c < s → (len : ℕ) → len ≡ min most (s - c)
-      → Same (λ (j : ℕ). in_counters (to_z w32 s) n (c + j)) most (record { hit = false; len = len })
-  counters_before l k len e =
+module _ (c s n most : ℕ) (h : 0 < most) where
+  in_pos : (z : ℤ) → counter_of z ≡ Some s → (m : ℕ) → in_counters z n m ≡ leb s m && ltb m (s + n)
+  unfolding in_counters
+  in_pos z l m = rw (from_first z s l)
+
+  pub counters_before : (z : ℤ) → counter_of z ≡ Some s → c < s → (len : ℕ) → len ≡ min most (s - c)
+      → Same (λ (j : ℕ). in_counters z n (c + j)) most (record { hit = false; len = len })
+  counters_before z l k len e =
       record {
         some = omega arith;
         few = omega arith;
-        same = λ j q. in_pos l (c + j) ∙ ap (λ (b : Bool). b && ltb (c + j) (s + n)) (lt-leb s (c + j) (omega arith));
+        same = λ j q. in_pos z l (c + j) ∙ ap (λ (b : Bool). b && ltb (c + j) (s + n)) (lt-leb s (c + j) (omega arith));
       }
 
-  pub counters_after : s < 2147483648 → s ≤ c → (r : Found) → Same (λ (j : ℕ). ltb (c - s + j) n) most r → Same (λ (j : ℕ). in_counters (to_z w32 s) n (c + j)) most r
-  counters_after l k r =
-      same_by (λ (j : ℕ). in_counters (to_z w32 s) n (c + j)) (λ (j : ℕ). ltb (c - s + j) n) most r
-      (λ j. in_pos l (c + j)
+  pub counters_after : (z : ℤ) → counter_of z ≡ Some s → s ≤ c → (r : Found) → Same (λ (j : ℕ). ltb (c - s + j) n) most r → Same (λ (j : ℕ). in_counters z n (c + j)) most r
+  counters_after z l k r =
+      same_by (λ (j : ℕ). in_counters z n (c + j)) (λ (j : ℕ). ltb (c - s + j) n) most r
+      (λ j. in_pos z l (c + j)
       ∙ (ap (λ (b : Bool). b && ltb (c + j) (s + n)) (le-leb s (c + j) (omega arith))
       ∙ ltb_iff (c + j) (s + n) (c - s + j) n (λ q. omega arith) (λ q. omega arith)))
 
+module _ (c n most : ℕ) where
   -- below zero: the counters from zero on are those of n less what lies below
   minus : (a m : ℕ) → le_z (negsuc a) (pos m) && lt_z (pos m) (negsuc a +ℤ pos n) ≡ ltb (m + a + 1) n
   minus a m = go (ltb n (suc a)) refl
@@ -96,15 +106,17 @@ module _ (c s n most : ℕ) (h : 0 < most) where
           let q : suc a ≤ n = ltb-false n (suc a) e in
           rw e (ltb_iff m (n - suc a) (m + a + 1) n (λ k. omega arith) (λ k. omega arith))
 
-  in_neg : 2147483648 ≤ s → (m : ℕ) → in_counters (to_z w32 s) n m ≡ ltb (m + (4294967296 - suc s) + 1) n
+  pub counters_low : (z : ℤ) → counter_of z ≡ None → (u : ℕ) → u ≡ unsigned_abs z → (r : Found) → Same (λ (j : ℕ). ltb (c + u + j) n) most r
+      → Same (λ (j : ℕ). in_counters z n (c + j)) most r
   unfolding in_counters
-  in_neg l m = rw (le-ltb s 2147483648 l) (minus (4294967296 - suc s) m)
-
-  pub counters_low : 2147483648 ≤ s → s < 4294967296 → (r : Found) → Same (λ (j : ℕ). ltb (c + (4294967295 - s) + 1 + j) n) most r
-      → Same (λ (j : ℕ). in_counters (to_z w32 s) n (c + j)) most r
-  counters_low l u r =
-      same_by (λ (j : ℕ). in_counters (to_z w32 s) n (c + j)) (λ (j : ℕ). ltb (c + (4294967295 - s) + 1 + j) n) most r
-      (λ j. in_neg l (c + j) ∙ ltb_iff (c + j + (4294967296 - suc s) + 1) n (c + (4294967295 - s) + 1 + j) n (λ q. omega arith) (λ q. omega arith))
+  counters_low (pos s) e u q r v = absurd (some_none e)
+    where
+      some_none : {k : ℕ} → ◌≡◌ {A = Option ℕ} (Some k) None → ⊥
+      some_none ()
+  counters_low (negsuc a) e u q r v =
+      let w : u ≡ suc a = q in
+      same_by (λ (j : ℕ). in_counters (negsuc a) n (c + j)) (λ (j : ℕ). ltb (c + u + j) n) most r
+      (λ j. minus a (c + j) ∙ ltb_iff (c + j + a + 1) n (c + u + j) n (λ k. omega arith) (λ k. omega arith)) v
 
 -- ---------------------------------------------------------------- one range
 
@@ -113,11 +125,10 @@ module _ (peer c n most : ℕ) (i : Id) where
   unfolding in_range in_counters
   in_range_by b e j = rw e
 
-  pub range_here : peer ≡ i.peer → (b : ℕ) → b ≡ bits32 i.counter → SFits w32 i.counter → (r : Found)
-      → Same (λ (j : ℕ). in_counters (to_z w32 b) n (c + j)) most r → Same (λ (j : ℕ). in_range (unit_id peer (c + j)) (range i n)) most r
-  range_here e b q f r =
-      same_by (λ (j : ℕ). in_range (unit_id peer (c + j)) (range i n)) (λ (j : ℕ). in_counters (to_z w32 b) n (c + j)) most r
-      (λ j. in_range_by true (eq-eqb peer i.peer e) j ∙ ap (λ (z : ℤ). in_counters z n (c + j)) (sym (ap (to_z w32) q ∙ to_z-of_z f)))
+  pub range_here : peer ≡ i.peer → (r : Found) → Same (λ (j : ℕ). in_counters i.counter n (c + j)) most r → Same (λ (j : ℕ). in_range (unit_id peer (c + j)) (range i n)) most r
+  range_here e r =
+      same_by (λ (j : ℕ). in_range (unit_id peer (c + j)) (range i n)) (λ (j : ℕ). in_counters i.counter n (c + j)) most r
+      (in_range_by true (eq-eqb peer i.peer e))
 
   pub range_other : 0 < most → (peer ≡ i.peer → ⊥) → Same (λ (j : ℕ). in_range (unit_id peer (c + j)) (range i n)) most (record { hit = false; len = most })
   range_other h e = same_all (λ (j : ℕ). in_range (unit_id peer (c + j)) (range i n)) false most h (in_range_by false (ne_eqb peer i.peer e))

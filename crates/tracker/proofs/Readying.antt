@@ -8,12 +8,15 @@ use lib.ListN.{length, drop}
 use borrow.Author.Tests.{le-leb, lt-leb}
 use Rattle.span.specs.declared.span.FugueSpan.{FugueSpan}
 use Rattle.span.specs.Units.{expand, join}
-use Rattle.span.proofs.AnswerLaws.{is_done, is_refused}
+use Rattle.span.specs.declared.refusal.Refusal.{Refusal}
+use Rattle.span.specs.declared.refusal.Refusal.TheVariants as Refuse
+use Rattle.span.proofs.AnswerLaws.{is_done}
+use Rattle.span.proofs.RefusalLaws.{number_not_zero, answer_err}
 use Rattle.store.specs.Row.{rows}
 use Rattle.store.specs.Header.{count, room, spans_of}
 use Rattle.rope.specs.Maybe.{DiffAnswer}
-use Rattle.std.specs.Prelude.{Ok}
-use Rattle.span.specs.Refusal.{refused}
+use Rattle.std.specs.Prelude.{Result, Ok, Err, IfOk}
+use Rattle.span.specs.Refusal.{number_of, code_of, refused}
 use Rattle.rope.specs.declared.diff.EntryNumbers.{EntryNumbers}
 use Rattle.units.specs.Limits.{EDITS, PEERS}
 use Rattle.units.specs.Lists.{every, over}
@@ -96,18 +99,16 @@ module _ (s t e : List ℕ) (w : is_history s t e ≡ true) (a b : List ℕ) (ka
   by_versions : (c : ℕ) → versions_code (history_in s t e).held (A s t e w a b ka kb) (B s t e w a b ka kb) ≡ c → (c ≡ 0 → ⊥) → c ≡ number
   by_versions c q z = sym (number_is ∙ (code_versions (room s) (target_room t) most (history_in s t e) (A s t e w a b ka kb) (B s t e w a b ka kb) (well_of s t e w).valid (λ y. z (sym q ∙ y)) ∙ q))
 
-  pub ready_refused : (c : ℕ) (r : Ready) → r.code ≡ c → c ≡ number → (c ≡ 0 → ⊥) → Readied s t e ka a kb b most r
-  ready_refused c r q n z = record { number = q ∙ n; done = λ (y : r.code ≡ 0). absurd (z (sym q ∙ y)) }
+  pub ready_refused : (x : Refusal) → number_of x ≡ number → Readied s t e ka a kb b most (Err x)
+  ready_refused x n = record { number = n; done = tt }
 
-  pub ready_from : (r : Ready) → r.code ≡ 6 → 16 < ka → Readied s t e ka a kb b most r
-  ready_from r q l = ready_refused 6 r q
+  pub ready_from : 16 < ka → Readied s t e ka a kb b most (Err Refuse.Version)
+  ready_from l = ready_refused Refuse.Version
       (by_versions 6 (versions_six (history_in s t e).held (A s t e w a b ka kb) (B s t e w a b ka kb) (ap (named (history_in s t e).held) (version_many ka a l) ∙ broken_not (history_in s t e).held)) (λ z. omega (arith, z)))
-      (λ z. omega (arith, z))
 
-  pub ready_to : (r : Ready) → r.code ≡ 6 → 16 < kb → Readied s t e ka a kb b most r
-  ready_to r q l = ready_refused 6 r q
+  pub ready_to : 16 < kb → Readied s t e ka a kb b most (Err Refuse.Version)
+  ready_to l = ready_refused Refuse.Version
       (by_versions 6 (versions_six_b (history_in s t e).held (A s t e w a b ka kb) (B s t e w a b ka kb) (ap (named (history_in s t e).held) (version_many kb b l) ∙ broken_not (history_in s t e).held)) (λ z. omega (arith, z)))
-      (λ z. omega (arith, z))
 
   module _ (fa : ka ≤ 16) (fb : kb ≤ 16) (h : ℕ) (eh : h ≡ edit_count e) where
     pub ready_asks : (h * 256 ≤ length (edit_rows e)) × (h ≤ EDITS) × (ka * 12 ≤ length a) × (kb * 12 ≤ length b)
@@ -118,8 +119,8 @@ module _ (s t e : List ℕ) (w : is_history s t e ≡ true) (a b : List ℕ) (ka
       unfolding history_in
       versions_is = sym (ec t ∙ (ap₂ (λ (v : Version) (l : List Held). versions_code l v (pairs kb b)) (version_is ka a fa) (held_are s t e w h eh t) ∙ ap (versions_code (held (edit_count e) (drop 64 e) t) (A s t e w a b ka kb)) (version_is kb b fb)))
 
-      pub ready_versions : (r : Ready) → r.code ≡ c → (c ≡ 0 → ⊥) → Readied s t e ka a kb b most r
-      ready_versions r q z = ready_refused c r q (by_versions c versions_is z) z
+      pub ready_versions : (x : Refusal) → c ≡ number_of x → Readied s t e ka a kb b most (Err x)
+      ready_versions x q = ready_refused x (sym q ∙ by_versions c versions_is (λ z. number_not_zero x (sym q ∙ z)))
 
       module _ (zc : c ≡ 0) (n : ℕ) (en : n ≡ count s) where
         pub ready_sees : Sees n (part s) h (edit_rows e) t ka a kb b
@@ -144,8 +145,8 @@ module _ (s t e : List ℕ) (w : is_history s t e ≡ true) (a b : List ℕ) (ka
               rooms_is ∙ (ap (rooms_code (room s) most) (both_is s t e w a b ka kb fa h eh fb) ∙
               sym (number_is ∙ code_rooms (room s) (target_room t) most (history_in s t e) (A s t e w a b ka kb) (B s t e w a b ka kb) (well_of s t e w).valid (versions_is ∙ zc)))
 
-          pub ready_rooms : (r : Ready) → r.code ≡ d → (d ≡ 0 → ⊥) → Readied s t e ka a kb b most r
-          ready_rooms r q z = ready_refused d r q rooms_number z
+          pub ready_rooms : (y : Refusal) → d ≡ number_of y → Readied s t e ka a kb b most (Err y)
+          ready_rooms y q = ready_refused y (sym q ∙ rooms_number)
 
           module _ (zd : d ≡ 0) (m : ℕ) (em : m ≡ length (one_of h (edit_rows e) t ka a (rows n (part s)))) where
             zero : (length (both_of h (edit_rows e) t ka a kb b (spans_of s)) ≤ room s) × (diff_rows_code most (both_of h (edit_rows e) t ka a kb b (spans_of s)) ≡ 0)
@@ -180,11 +181,11 @@ module _ (s t e : List ℕ) (w : is_history s t e ≡ true) (a b : List ℕ) (ka
                   few = omega (arith, less, zero.0, counted);
                 }
 
-            pub ready_done : Readied s t e ka a kb b most (record { code = 0; edits = h; rows = n; both = k; one = m })
+            pub ready_done : Readied s t e ka a kb b most (Ok (record { edits = h; rows = n; both = k; one = m }))
             ready_done =
                 record {
                   number = sym zd ∙ rooms_number;
-                  done = λ _. record {
+                  done = record {
                     from = fa;
                     to = fb;
                     edits = eh;
@@ -195,11 +196,12 @@ module _ (s t e : List ℕ) (w : is_history s t e ≡ true) (a b : List ℕ) (ka
 
 -- ---- what the columns are after a refusal
 
-pub diffed_refused : (code : ℕ) (l : List FugueSpan) (c1 c2 c3 c4 c5 c6 : List ℕ) → (code ≡ 0 → ⊥) → Diffed code l (refused code) c1 c2 c3 c4 c5 c6 c1 c2 c3 c4 c5 c6
-diffed_refused code l c1 c2 c3 c4 c5 c6 z =
+pub diffed_refused : (x : Refusal) (code : ℕ) (l : List FugueSpan) (c1 c2 c3 c4 c5 c6 : List ℕ) → number_of x ≡ code → Diffed code l (Err x) c1 c2 c3 c4 c5 c6 c1 c2 c3 c4 c5 c6
+diffed_refused x code l c1 c2 c3 c4 c5 c6 q =
+    let z : code ≡ 0 → ⊥ = λ y. number_not_zero x (q ∙ y) in
     let f : (g : EntryNumbers → ℕ) (c : List ℕ) → c ≡ column_of code g (entries l) c = λ g c. sym (kept_not code (over (column g (entries l)) c) c z) in
     record {
-      said = is_refused Ok refused code code (length (entries l)) z refl;
+      said = answer_err x code (length (entries l)) q;
       kind = f (λ (x : EntryNumbers). x.kind) c1;
       first = f (λ (x : EntryNumbers). x.a) c2;
       second = f (λ (x : EntryNumbers). x.b) c3;
@@ -208,28 +210,28 @@ diffed_refused code l c1 c2 c3 c4 c5 c6 z =
       lamport = f (λ (x : EntryNumbers). x.lamport) c6;
     }
 
-pub deltas_refused : (s t e : List ℕ) (a b : Version) (most code : ℕ) (c1 c2 c3 c4 c5 c6 : List ℕ) → code ≡ delta_number s t e most a b → (code ≡ 0 → ⊥) → Deltas s t e a b most (refused code) s c1 c2 c3 c4 c5 c6 c1 c2 c3 c4 c5 c6
-deltas_refused s t e a b most code c1 c2 c3 c4 c5 c6 n z =
+pub deltas_refused : (s t e : List ℕ) (a b : Version) (most : ℕ) (x : Refusal) (c1 c2 c3 c4 c5 c6 : List ℕ) → number_of x ≡ delta_number s t e most a b → Deltas s t e a b most (Err x) s c1 c2 c3 c4 c5 c6 c1 c2 c3 c4 c5 c6
+deltas_refused s t e a b most x c1 c2 c3 c4 c5 c6 n =
     record {
-      leaves = leaves_refused (delta_number s t e most a b) (checked_out s t e a) code s t e n z;
-      diffed = subst (λ (d : ℕ). Diffed d (between s t e a b) (refused code) c1 c2 c3 c4 c5 c6 c1 c2 c3 c4 c5 c6) n (diffed_refused code (between s t e a b) c1 c2 c3 c4 c5 c6 z);
+      leaves = leaves_refused (delta_number s t e most a b) (checked_out s t e a) (number_of x) s t e n (number_not_zero x);
+      diffed = diffed_refused x (delta_number s t e most a b) (between s t e a b) c1 c2 c3 c4 c5 c6 n;
     }
 
 -- ---- the delta, from what was made ready
 
-module _ (s t e : List ℕ) (w : is_history s t e ≡ true) (a b : List ℕ) (ka kb most : ℕ) (r : Ready) (y : Readied s t e ka a kb b most r) where
-  pub to_refused : (r.code ≡ 0 → ⊥) → (c1 c2 c3 c4 c5 c6 : List ℕ) → Deltas s t e (version_in ka a) (version_in kb b) most (refused r.code) s c1 c2 c3 c4 c5 c6 c1 c2 c3 c4 c5 c6
-  to_refused z c1 c2 c3 c4 c5 c6 = deltas_refused s t e (version_in ka a) (version_in kb b) most r.code c1 c2 c3 c4 c5 c6 y.number z
+module _ (s t e : List ℕ) (w : is_history s t e ≡ true) (a b : List ℕ) (ka kb most : ℕ) (o : Result Ready Refusal) (y : Readied s t e ka a kb b most o) where
+  pub to_refused : (x : Refusal) → o ≡ Err x → (c1 c2 c3 c4 c5 c6 : List ℕ) → Deltas s t e (version_in ka a) (version_in kb b) most (Err x) s c1 c2 c3 c4 c5 c6 c1 c2 c3 c4 c5 c6
+  to_refused x z c1 c2 c3 c4 c5 c6 = deltas_refused s t e (version_in ka a) (version_in kb b) most x c1 c2 c3 c4 c5 c6 (sym (ap code_of z) ∙ y.number)
 
-  module _ (z : r.code ≡ 0) where
+  module _ (r : Ready) (z : o ≡ Ok r) where
     d : Done s t e ka a kb b most r
-    d = y.done z
+    d = subst (λ (q : Result Ready Refusal). IfOk q (Done s t e ka a kb b most)) z y.done
 
     pub to_asks : Between r.rows r.both r.one s r.edits (edit_rows e) t ka a kb b
     to_asks = subst (λ (E : List ℕ). Between r.rows r.both r.one s r.edits E t ka a kb b) (sym (edit_rows_lem e)) d.asks
 
     zero_number : delta_number s t e most (version_in ka a) (version_in kb b) ≡ 0
-    zero_number = sym y.number ∙ z
+    zero_number = sym y.number ∙ ap code_of z
 
     list : both_of r.edits (edit_rows e) t ka a kb b (spans_of s) ≡ between s t e (version_in ka a) (version_in kb b)
     unfolding between

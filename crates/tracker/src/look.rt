@@ -3,8 +3,6 @@
 // An id's status is decided by the version's count of its peer and by the target ranges of the edits in the version. Each of these answers alike up to
 // some unit: the reach is cut there. The rows are the entries' to check, and a unit's counter is below 2^31, so no sum here wraps.
 ghost use Rattle.std.specs.Prelude.{◌≡◌, true, not, ◌&&◌, ◌||◌, ℕ, ◌+◌, ◌*◌, ◌≤◌, ◌<◌, min, length, drop, nat_lt, ◌==◌};
-ghost use Rattle.std.specs.Int.{w32};
-ghost use Rattle.std.proofs.Common.{to_z};
 ghost use Rattle.span.specs.Ids.{room_of};
 ghost use Rattle.history.specs.Version.{in_version};
 ghost use Rattle.history.specs.Checkout.{in_range, in_ranges};
@@ -15,7 +13,7 @@ ghost use Rattle.tracker.specs.Reach.{unit_id, in_counters, edit_takes, Same, Ta
 use crate::row::{Target, get_target};
 use crate::version::{below, count_of};
 use span::ids::{Id, UNKNOWN_PEER};
-use span::status::Status;
+use span::status::{Status, counter_of};
 use words::bytes_at;
 
 // A status, and how many units have it.
@@ -57,22 +55,22 @@ fn below_reach(k: u32, n: u32, most: u32) -> Found
     }
 }
 
-// Whether a counter is one of n from the one with the bits `start` on, from c on.
-fn counters_reach(c: u32, start: u32, n: u32, most: u32) -> Found
+// Whether a counter is one of n from `start` on, from c on.
+fn counters_reach(c: u32, start: i32, n: u32, most: u32) -> Found
     requires { (0 < most) × (c < 2147483648) }
-    ensures { Same (λ (j : ℕ). in_counters (to_z w32 start) n (c + j)) most result }
+    ensures { Same (λ (j : ℕ). in_counters start n (c + j)) most result }
 {
-    if start < 2147483648 {
-        if c < start {
-            Found {
-                hit: false,
-                len: most.min(start - c),
-            }
-        } else {
-            below_reach(c - start, n, most)
+    let Some(first) = counter_of(start) else {
+        // Those below zero are no unit's, but count.
+        return below_reach(c + start.unsigned_abs(), n, most);
+    };
+    if c < first {
+        Found {
+            hit: false,
+            len: most.min(first - c),
         }
     } else {
-        below_reach(c + (4294967295 - start) + 1, n, most)
+        below_reach(c - first, n, most)
     }
 }
 
@@ -82,7 +80,7 @@ fn range_reach(peer: u64, c: u32, x: Target, most: u32) -> Found
     ensures { Same (λ (j : ℕ). in_range (unit_id peer (c + j)) (to_range x)) most result }
 {
     if peer == x.id.peer {
-        counters_reach(c, store::counter_bits(x.id), x.len, most)
+        counters_reach(c, x.id.counter, x.len, most)
     } else {
         Found {
             hit: false,
