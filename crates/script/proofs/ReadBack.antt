@@ -75,7 +75,7 @@ id_part i = peer_text i.peer ++ (46 ∷ int_text i.counter)
 module _ (i : Id) (h : i.peer < 2 ^ 64) (f : SFits w32 i.counter) where
   id_one : Lacks 32 (id_part i)
   unfolding id_part is_digit
-  id_one = lacks_append 32 (peer_text i.peer) (46 ∷ int_text i.counter) (peer_lacks 32 i.peer refl refl) (rw (int_lacks 32 refl i.counter refl))
+  id_one = lacks_append 32 (peer_text i.peer) (46 ∷ int_text i.counter) (peer_lacks 32 i.peer refl refl) (rw (int_lacks 32 refl i.counter refl) (omega arith))
 
   id_from_lem : id_from (peer_text i.peer) (int_text i.counter) ≡ Some i
   unfolding id_from
@@ -105,8 +105,8 @@ opt_id_back (Some i) h f = let b = id_back i h f in record { word = b.word; is =
 -- now:COUNT, future:COUNT
 count_back : (q : Bool) (z : ℤ) → SFits w16 z → Back (future_text q ++ int_text z) status_word (Some (record { future = q; delete_times = z }))
 unfolding status_word status_from change_word is_digit
-count_back true z f = record { word = ascii "future:" ++ int_text z; is = refl; one = rw (int_lacks 32 refl z refl); back = rw (Text.int16_read z f) }
-count_back false z f = record { word = ascii "now:" ++ int_text z; is = refl; one = rw (int_lacks 32 refl z refl); back = rw (Text.int16_read z f) }
+count_back true z f = record { word = ascii "future:" ++ int_text z; is = refl; one = rw (int_lacks 32 refl z refl) (omega arith); back = rw (Text.int16_read z f) }
+count_back false z f = record { word = ascii "now:" ++ int_text z; is = refl; one = rw (int_lacks 32 refl z refl) (omega arith); back = rw (Text.int16_read z f) }
 
 pub status_back : (s : Status) → SFits w16 s.delete_times → Back (status_text s) status_word (Some s)
 unfolding status_text

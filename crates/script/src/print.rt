@@ -21,6 +21,7 @@ fn peer(out: &mut [u8], at: usize, p: u64) -> usize
     }
 }
 
+#[tactic(auto, using(text::proofs::PutsLaws::puts), unfolding(crate::specs::Print::number_text))]
 pub fn number(out: &mut [u8], at: usize, n: u64) -> usize
     ensures { Puts at (number_text n) out.old result out.new }
 {
@@ -29,6 +30,7 @@ pub fn number(out: &mut [u8], at: usize, n: u64) -> usize
 }
 
 // PEER.COUNTER
+#[tactic(auto, using(text::proofs::PutsLaws::puts), unfolding(crate::specs::Print::id_text))]
 pub fn id(out: &mut [u8], at: usize, i: Id) -> usize
     ensures { Puts at (id_text i) out.old result out.new }
 {
@@ -77,27 +79,29 @@ pub fn opt_status(out: &mut [u8], at: usize, d: Option<Status>) -> usize
 }
 
 // A name and a number.
-fn named(out: &mut [u8], at: usize, name: &[u8], n: u32) -> usize
+#[tactic(auto, using(text::proofs::PutsLaws::puts), unfolding(crate::specs::Print::named_text))]
+fn named(out: &mut [u8], at: usize, name: &[u8], n: u64) -> usize
     ensures { Puts at (named_text name.now n) out.old result out.new }
 {
     let at = put(out, at, name);
-    number(out, at, u64::from(n))
+    number(out, at, n)
 }
 
 // text A B, unknown N, start I, end I or move
+#[tactic(auto, using(text::proofs::PutsLaws::puts), unfolding(crate::specs::Print::value_text))]
 pub fn chunk(out: &mut [u8], at: usize, c: RichtextChunk) -> usize
     ensures { Puts at (chunk_text c) out.old result out.new }
 {
     match c.value() {
         RichtextChunkValue::Text { start, end } => {
-            let at = named(out, at, b" text", start);
+            let at = named(out, at, b" text", u64::from(start));
             number(out, at, u64::from(end))
         }
         RichtextChunkValue::StyleAnchor { id, anchor_type } => match anchor_type {
-            AnchorType::Start => named(out, at, b" start", id),
-            AnchorType::End => named(out, at, b" end", id),
+            AnchorType::Start => named(out, at, b" start", u64::from(id)),
+            AnchorType::End => named(out, at, b" end", u64::from(id)),
         },
-        RichtextChunkValue::Unknown(n) => named(out, at, b" unknown", n),
+        RichtextChunkValue::Unknown(n) => named(out, at, b" unknown", u64::from(n)),
         RichtextChunkValue::MoveAnchor => put(out, at, b" move"),
     }
 }
@@ -119,15 +123,16 @@ pub fn span(out: &mut [u8], at: usize, x: FugueSpan) -> usize
 // ---- Lines
 
 // A name with its number, as `units N` and `no K`.
+#[tactic(auto, using(text::proofs::PutsLaws::puts), unfolding(crate::specs::Print::head_line))]
 pub fn head(out: &mut [u8], at: usize, name: &[u8], n: u64) -> usize
     ensures { Puts at (head_line name.now n) out.old result out.new }
 {
-    let at = put(out, at, name);
-    let at = number(out, at, n);
+    let at = named(out, at, name, n);
     put(out, at, b"\n")
 }
 
 // unit UNIT
+#[tactic(auto, using(text::proofs::PutsLaws::puts), unfolding(crate::specs::Print::unit_line))]
 pub fn unit_line(out: &mut [u8], at: usize, x: FugueSpan) -> usize
     ensures { Puts at (unit_line x) out.old result out.new }
 {
@@ -137,15 +142,17 @@ pub fn unit_line(out: &mut [u8], at: usize, x: FugueSpan) -> usize
 }
 
 // span LEN SPAN, and piece LEN SPAN
+#[tactic(auto, using(text::proofs::PutsLaws::puts), unfolding(crate::specs::Print::span_line))]
 pub fn span_line(out: &mut [u8], at: usize, name: &[u8], len: u32, x: FugueSpan) -> usize
     ensures { Puts at (span_line name.now len x) out.old result out.new }
 {
-    let at = named(out, at, name, len);
+    let at = named(out, at, name, u64::from(len));
     let at = span(out, at, x);
     put(out, at, b"\n")
 }
 
 // item ID CHUNK
+#[tactic(auto, using(text::proofs::PutsLaws::puts), unfolding(crate::specs::Print::item_line))]
 pub fn item_line(out: &mut [u8], at: usize, i: Id, c: RichtextChunk) -> usize
     ensures { Puts at (item_line i c) out.old result out.new }
 {
@@ -156,6 +163,7 @@ pub fn item_line(out: &mut [u8], at: usize, i: Id, c: RichtextChunk) -> usize
 }
 
 // at ID LEFT
+#[tactic(auto, using(text::proofs::PutsLaws::puts), unfolding(crate::specs::Print::at_line))]
 pub fn at_line(out: &mut [u8], at: usize, i: Id, left: u32) -> usize
     ensures { Puts at (at_line i left) out.old result out.new }
 {

@@ -130,6 +130,9 @@ module _ (at : ℕ) (v w s : List ℕ) where
 pub puts_then : (at : ℕ) (v w s : List ℕ) {a b : ℕ} {s1 s2 : List ℕ} → Puts at v s a s1 → Puts a w s1 b s2 → Puts at (v ++ w) s b s2
 puts_then at v w s p q = (q.0 ∙ rw (p.0, p.1) (placed-append at v w s), q.1 ∙ rw (p.0, p.1) (written-append at v w s))
 
+-- two puts in a row as one, for the tactics
+pub ruleset puts = (placed-append, written-append)
+
 -- the same of a slice copied to the part from at on
 module _ (at : ℕ) (w s : List ℕ) where
   pub part_fits : at + length w ≤ length s → take at s ++ (w ++ drop (at + length w - at) (drop at s)) ≡ written at w s
