@@ -1,12 +1,12 @@
 -- A buffer cut into rows says the list of its rows. Assumes nothing.
 use Prim.Native.Nat.{ℕ, zero, suc, ◌+◌, ◌-◌, ◌*◌, ◌/◌, ◌≤◌}
-use mathlib.Core.Path.{◌≡◌, refl, sym, ap, ap₂, ◌∙◌}
+use mathlib.Core.Path.{◌≡◌, refl, ap, ap₂, ◌∙◌}
 use native.Mathlib.Omega.{arith}
-use Rattle.std.proofs.Common.{zero-add, List, [], ◌∷◌, length, take, drop}
+use Rattle.std.proofs.Common.{zero-add, List, ◌∷◌, length, take, drop}
 use Rattle.std.specs.Simd.{first_chunks}
-use Rattle.std.proofs.lemmas.List.{length-drop, take-take, drop-take}
-use Rattle.store.specs.Row.{rows, row_at, words_at, span_of}
-use Rattle.store.specs.Listed.{said, spans}
+use Rattle.std.proofs.lemmas.List.{take-take, drop-take}
+use Rattle.store.specs.Row.{rows, row_at, span_of}
+use Rattle.store.specs.Listed.{spans}
 use Rattle.store.proofs.Laws.{words_moved}
 
 -- the first k of more chunks

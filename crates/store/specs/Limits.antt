@@ -1,4 +1,4 @@
--- Document 01's sizes, for the definitions; src/limits.rt has the same numbers for the code.
+-- The product's sizes, for the definitions; src/limits.rt has the same numbers for the code.
 use Rattle.std.specs.Prelude.{ℕ}
 
 -- the units of a list, placeholder included

@@ -1,4 +1,4 @@
-// Document 01's sizes, for the code; specs/Limits.antt has the same numbers for the definitions.
+// The product's sizes, for the code; specs/Limits.antt has the same numbers for the definitions.
 
 // The units of a list, placeholder included.
 pub const UNITS: usize = 65536;

@@ -35,9 +35,6 @@ le_8 (a ∷ b ∷ c ∷ d ∷ e ∷ f ∷ g ∷ []) = omega arith
 le_8 (a ∷ b ∷ c ∷ d ∷ e ∷ f ∷ g ∷ h ∷ l) = omega arith
 
 -- as the code reads: the bytes, and then what they say
-pub read_2 : (bs l : List ℕ) (n : ℕ) → bs ≡ take 2 l → n ≡ from_le_bytes w16 bs → n ≡ le (take 2 l)
-read_2 bs l n b e = e ∙ ap (from_le_bytes w16) b ∙ le_2 l
-
 pub read_4 : (bs l : List ℕ) (n : ℕ) → bs ≡ take 4 l → n ≡ from_le_bytes w32 bs → n ≡ le (take 4 l)
 read_4 bs l n b e = e ∙ ap (from_le_bytes w32) b ∙ le_4 l
 
@@ -70,6 +67,6 @@ write_4 n at bs s t b e = e ∙ ap (λ (l : List ℕ). put at l s) (b ∙ bytes_
 pub write_8 : (n at : ℕ) (bs s t : List ℕ) → bs ≡ to_le_bytes w64 n → t ≡ put at bs s → t ≡ put at (bytes_of 8 n) s
 write_8 n at bs s t b e = e ∙ ap (λ (l : List ℕ). put at l s) (b ∙ bytes_8 n)
 
-pub ruleset reads = (read_2, read_4, read_8, read_signed)
+pub ruleset reads = (read_4, read_8, read_signed)
 
-pub ruleset writes = (bytes_2, bytes_4, bytes_8)
+pub ruleset writes = (bytes_4, bytes_8)

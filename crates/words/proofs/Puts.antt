@@ -52,19 +52,6 @@ module _ (s bs : List ℕ) (at : ℕ) (fits : at ≤ length s) where
 pub next : (s bs cs : List ℕ) (at at2 : ℕ) {s1 s2 : List ℕ} → at ≤ length s → s1 ≡ put at bs s → s2 ≡ put at2 cs s1 → at2 ≡ at + length bs → s2 ≡ put at (bs ++ cs) s
 next s bs cs at at2 h e1 e2 p = e2 ∙ rw (p, e1) (put-put s bs at h cs)
 
--- four words of w bytes
-pub four_puts : (w : ℕ) (s : List ℕ) (at a b c d a2 a3 a4 : ℕ) {s1 s2 s3 s4 : List ℕ} → at ≤ length s
-    → s1 ≡ put at (bytes_of w a) s → s2 ≡ put a2 (bytes_of w b) s1 → s3 ≡ put a3 (bytes_of w c) s2 → s4 ≡ put a4 (bytes_of w d) s3
-    → a2 ≡ at + w → a3 ≡ at + (w + w) → a4 ≡ at + (w + w + w)
-    → s4 ≡ put at (bytes_of w a ++ bytes_of w b ++ bytes_of w c ++ bytes_of w d) s
-four_puts w s at a b c d a2 a3 a4 h e1 e2 e3 e4 p2 p3 p4 =
-    let la = length_bytes w a in
-    let lb = length_bytes w b in
-    let lc = length_bytes w c in
-    let f2 = next s (bytes_of w a) (bytes_of w b) at a2 h e1 e2 (omega arith) in
-    let f3 = next s (bytes_of w a ++ bytes_of w b) (bytes_of w c) at a3 h f2 e3 (rw length-append (omega arith)) in
-    next s (bytes_of w a ++ bytes_of w b ++ bytes_of w c) (bytes_of w d) at a4 h f3 e4 (simp length-append (omega arith))
-
 -- a part that ends before the put, or starts after it, is as it was
 pub part_before : (s bs : List ℕ) (b at m : ℕ) → b ≤ length s → at + m ≤ b → take m (drop at (put b bs s)) ≡ take m (drop at s)
 unfolding put
