@@ -7,7 +7,7 @@ use native.Mathlib.Omega.{arith}
 use lib.Dec.{eqb, leb}
 use lib.ListN.{length, take, drop}
 use lib.Pow.{are_bytes}
-use borrow.Author.Tests.{eqb-true, eqb-false, le-leb}
+use borrow.Author.Tests.{eqb-true, le-leb}
 use Rattle.words.specs.Le.{put}
 use Rattle.span.specs.declared.status.Status.{Status}
 use Rattle.span.specs.declared.span.FugueSpan.{FugueSpan}

@@ -8,7 +8,7 @@ use lib.ListN.{take, drop}
 use lib.Seq.{take-add, drop-drop}
 use Rattle.span.specs.declared.chunk.RichtextChunk.{RichtextChunk}
 use Rattle.span.specs.declared.ids.Id.{Id}
-use Rattle.span.specs.Chunk.{len_of, formed, joins, merged_chunk}
+use Rattle.span.specs.Chunk.{len_of, joins, merged_chunk}
 use Rattle.span.specs.Ids.{inc_id, same_id}
 use Rattle.span.proofs.IdsLaws.{inc_inc}
 use Rattle.span.proofs.Same.{same_id-true}

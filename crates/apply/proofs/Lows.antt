@@ -1,27 +1,22 @@
 -- The lowest refusal over the whole input.
-use Prim.Native.Nat.{ℕ, ◌+◌, ◌-◌, ◌<◌, ◌≤◌, min}
+use Prim.Native.Nat.{ℕ, ◌+◌, ◌-◌, ◌<◌, ◌≤◌}
 use mathlib.Core.Path.{◌≡◌, refl, sym, ap, ap₂, ◌∙◌}
-use mathlib.Core.Bool.{Bool, true, false, not, ◌&&◌, cond}
+use mathlib.Core.Bool.{Bool, true, false, ◌&&◌, cond}
 use mathlib.Core.List.{List, [], ◌∷◌}
 use native.Mathlib.Omega.{arith}
 use lib.Dec.{eqb, leb}
 use lib.ListN.{length}
 use Rattle.std.proofs.lemmas.Bool.Decides.{nat_tests}
-use borrow.Author.Tests.{eq-eqb, ne_eqb}
 use Rattle.span.specs.declared.chunk.RichtextChunk.{RichtextChunk}
 use Rattle.span.specs.declared.ids.Id.{Id}
-use Rattle.std.specs.Prelude as OptI
 use Rattle.span.specs.Answer.{lower}
-use Rattle.span.proofs.AnswerLaws.{lower_by}
-use Rattle.span.specs.Chunk.{len_of, formed}
-use Rattle.span.specs.Ids.{room_of, room_opt}
 use Rattle.span.specs.Units.{tab}
 use Rattle.units.specs.Maybe.{OptLamport}
-use Rattle.units.specs.declared.diff.Entry.TheVariants.{Retain, Delete, Insert}
+use Rattle.units.specs.declared.diff.Entry.TheVariants.{Insert}
 use Rattle.units.specs.Lists.{every}
 use Rattle.apply.specs.declared.item.Item.{Item}
-use Rattle.apply.specs.Apply.{Given, Known, lamport_fits, item_formed, item_ids, item_single, entry_formed, entry_ids, entry_known, used, applied, apply_code}
-use Rattle.apply.specs.Given.{given_code, insert_code, len_code, item_code, lowest}
+use Rattle.apply.specs.Apply.{Given, Known, item_formed, item_ids, item_single, entry_formed, entry_ids, entry_known, used, applied, apply_code}
+use Rattle.apply.specs.Given.{given_code, insert_code, item_code, lowest}
 use Rattle.apply.proofs.Tabs.{tab_turn, tab_none, tab_all}
 
 -- 1, 2 or 14 by three tests
