@@ -1,12 +1,11 @@
 -- the lines of the entries that a delta put into columns
-use Rattle.std.proofs.Common.{◌≡◌, ℕ, zero, suc, ◌<◌, ◌≤◌, Bool, true, false, cond, eqb, List, [], ◌∷◌, ◌++◌, map, length, get_or, take, replicate, sym, refl, ap, ◌∙◌, subst, arith, length-take-le, take-suc, to_z-of_z, w32, SFits}
+use Rattle.std.proofs.Common.{◌≡◌, ℕ, zero, suc, ◌<◌, ◌≤◌, List, [], ◌∷◌, ◌++◌, map, length, get_or, take, replicate, sym, refl, ap, ◌∙◌, subst, arith, length-take-le, take-suc, to_z-of_z, w32, SFits, ne_eqb}
 use mathlib.Core.List.{map-append}
 use lib.ListN.{length-replicate, length-map, get_or-append, get_or-map}
 use lib.Seq.{take-length}
 use Rattle.span.specs.declared.ids.Id.{Id}
 use Rattle.span.specs.declared.chunk.RichtextChunk.{RichtextChunk}
 use Rattle.span.specs.declared.span.FugueSpan.{FugueSpan}
-use Rattle.span.specs.Answer.{answer}
 use Rattle.text.specs.Ascii.{ascii}
 use Rattle.script.specs.Print.{number_text, id_text, chunk_text, head_line}
 use Rattle.units.specs.Lists.{over}
@@ -16,10 +15,12 @@ use Rattle.std.specs.Prelude.{None as Nothing, Some as At}
 use Rattle.units.specs.Delta.{entries}
 use Rattle.rope.specs.declared.diff.EntryNumbers.{EntryNumbers}
 use Rattle.rope.specs.Maybe.{DiffAnswer}
-use Rattle.std.specs.Prelude.{Ok}
-use Rattle.span.specs.Refusal.{refused}
+use Rattle.std.specs.Prelude.{Ok, Err}
+use Rattle.span.specs.declared.refusal.Refusal.{Refusal}
+use Rattle.span.specs.Refusal.{number_of}
 use Rattle.rope.specs.Columns.{entry_numbers, column, least, Filled, Diffed}
 use Rattle.session.specs.Say.{up_to, Says}
+use Rattle.session.proofs.NumberLaws.{IsNumber, answered_ok, answered_err}
 use Rattle.session.specs.Lines.{refused_lines}
 use Rattle.session.specs.Entries.{lamport_text, insert_line, entry_line, numbers_at, entry_at, columns_lines, entries_lines, delta_lines}
 
@@ -67,32 +68,22 @@ module _ (es : List Entry) (k a b p c l : List ℕ) {k2 a2 b2 p2 c2 l2 : List �
 
 module _ (code : ℕ) (spans : List FugueSpan) (k a b p c l : List ℕ) {k2 a2 b2 p2 c2 l2 : List ℕ} {r : DiffAnswer} (d : Diffed code spans r k a b p c l k2 a2 b2 p2 c2 l2) where
   pub delta_done : (n : ℕ) → r ≡ Ok n → columns_lines k2 a2 b2 p2 c2 l2 n ≡ delta_lines code (entries spans)
-  unfolding delta_lines answer
-  delta_done n f = go (eqb code 0) refl (sym f ∙ d.said)
-    where
-      go : (t : Bool) → eqb code 0 ≡ t → Ok n ≡ cond t (Ok (length (entries spans))) (refused code)
-          → columns_lines k2 a2 b2 p2 c2 l2 n ≡ cond t (entries_lines (entries spans)) (refused_lines code)
-      go true e q =
-          let m : n ≡ length (entries spans) = cc in
-          rw m
-          (filled_lines (entries spans) k a b p c l (record {
-            kind = rw e at d.kind;
-            first = rw e at d.first;
-            second = rw e at d.second;
-            peer = rw e at d.peer;
-            counter = rw e at d.counter;
-            lamport = rw e at d.lamport;
-          }))
-      go false e q = absurd (let z : ◌≡◌ {A = ℕ} 0 1 = cc in omega arith)
+  unfolding delta_lines
+  delta_done n f =
+      let w = answered_ok code (length (entries spans)) (sym f ∙ d.said) in
+      rw (w.0, w.1)
+      (filled_lines (entries spans) k a b p c l (record {
+        kind = rw w.0 at d.kind;
+        first = rw w.0 at d.first;
+        second = rw w.0 at d.second;
+        peer = rw w.0 at d.peer;
+        counter = rw w.0 at d.counter;
+        lamport = rw w.0 at d.lamport;
+      }))
 
-  pub delta_refused : (j : ℕ) → r ≡ refused j → refused_lines j ≡ delta_lines code (entries spans)
-  unfolding delta_lines answer
-  delta_refused j f = go (eqb code 0) (sym f ∙ d.said)
-    where
-      go : (t : Bool) → refused j ≡ cond t (Ok (length (entries spans))) (refused code)
-          → refused_lines j ≡ cond t (entries_lines (entries spans)) (refused_lines code)
-      go true q = absurd (let z : ◌≡◌ {A = ℕ} 0 1 = cc in omega arith)
-      go false q = let m : j ≡ code = cc in ap refused_lines m
+  pub delta_refused : (e : Refusal) → r ≡ Err e → IsNumber code → refused_lines (number_of e) ≡ delta_lines code (entries spans)
+  unfolding delta_lines
+  delta_refused e f n = let w = answered_err code (length (entries spans)) n (sym f ∙ d.said) in rw (w.0, ne_eqb code 0 w.1)
 
 -- columns that are all of one length
 pub lent : {k a b p c l n : ℕ} → k ≡ n → a ≡ n → b ≡ n → p ≡ n → c ≡ n → l ≡ n → least k a b p c l ≡ n

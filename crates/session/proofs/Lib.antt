@@ -1,3 +1,4 @@
+pub mod NumberLaws
 pub mod SayLaws
 pub mod ColumnsLaws
 pub mod InputLaws

@@ -14,4 +14,4 @@ change-fits c = search rules
 
 pub returns : goal.returns
 returns c =
-    edit_said _ _ _ _ _ _ (rw (to_z-of_z (from-fits ((goal.at.returns c).After-struct_told-1)), to_z-of_z (to-fits ((goal.at.returns c).After-struct_told-1)), to_z-of_z (change-fits ((goal.at.returns c).After-struct_told-1)), c.future.ensures) at c.update-code.ensures) c.done.ensures
+    edit_said _ _ _ _ _ _ (rw (to_z-of_z (from-fits ((goal.at.returns c).After-struct_told-1)), to_z-of_z (to-fits ((goal.at.returns c).After-struct_told-1)), to_z-of_z (change-fits ((goal.at.returns c).After-struct_told-1)), c.future.ensures) at c.update-outcome.ensures) c.done.ensures

@@ -1,8 +1,9 @@
 use Rattle.session.proofs.EntriesLaws.{delta_done, delta_refused, says_as}
+use Rattle.session.proofs.NumberLaws.{number_of_diff, answered_err}
 use Rattle.session.proofs.entries.diff_into.Goals as goal
 
-pub returns-in-Done : goal.returns-in-Done
-returns-in-Done c = says_as _ _ (delta_done _ _ _ _ _ _ _ _ c.get_diff.ensures _ c.in-Done.is) c.entries.ensures
+pub returns-in-Ok : goal.returns-in-Ok
+returns-in-Ok c = says_as _ _ (delta_done _ _ _ _ _ _ _ _ c.get_diff.ensures _ c.in-Ok.is) c.entries.ensures
 
-pub returns-in-Refused : goal.returns-in-Refused
-returns-in-Refused c = says_as _ _ (delta_refused _ _ _ _ _ _ _ _ c.get_diff.ensures _ c.in-Refused.is) c.refused.ensures
+pub returns-in-Err : goal.returns-in-Err
+returns-in-Err c = says_as _ _ (delta_refused _ _ _ _ _ _ _ _ c.get_diff.ensures _ c.in-Err.is (number_of_diff _ _)) c.refused.ensures

@@ -1,15 +1,15 @@
-use Rattle.std.proofs.Common.{eq-eqb, ne_eqb}
+use Rattle.std.proofs.Common.{ne_eqb}
 use Rattle.session.specs.Entries.{entry_line}
 use Rattle.session.proofs.entries.entry.Goals as goal
 
-pub returns-then-x-eq0 : goal.returns-then-x-eq0
+pub returns-in-0 : goal.returns-in-0
 unfolding entry_line
-returns-then-x-eq0 c = rw (eq-eqb _ _ c.if-x-eq0.true) c.counted.ensures
+returns-in-0 c = ?
 
-pub returns-then-x-eq1 : goal.returns-then-x-eq1
+pub returns-in-1 : goal.returns-in-1
 unfolding entry_line
-returns-then-x-eq1 c = rw (ne_eqb _ _ c.if-x-eq0.false, eq-eqb _ _ c.if-x-eq1.true) c.counted-then-x-eq1.ensures
+returns-in-1 c = ?
 
-pub returns : goal.returns
+pub returns-in_default : goal.returns-in_default
 unfolding entry_line
-returns c = rw (ne_eqb _ _ c.if-x-eq0.false, ne_eqb _ _ c.if-x-eq1.false) c.inserted.ensures
+returns-in_default c = ?

@@ -1,11 +1,13 @@
 use Rattle.session.specs.Lines.{done_lines}
-use Rattle.std.proofs.Common.{eq-eqb, ne_eqb}
+use Rattle.span.specs.Refusal.{number_of}
+use Rattle.span.proofs.RefusalLaws.{number_not_zero}
+use Rattle.std.proofs.Common.{ne_eqb}
 use Rattle.session.proofs.reply.done.Goals as goal
 
-pub returns-then-code-eq0 : goal.returns-then-code-eq0
+pub returns-in-Ok : goal.returns-in-Ok
 unfolding done_lines
-returns-then-code-eq0 c = rw (eq-eqb c.args.code 0 c.if-code-eq0.true) c.ok.ensures
+returns-in-Ok c = rw c.in-Ok.is c.ok.ensures
 
-pub returns-else-code-eq0 : goal.returns-else-code-eq0
+pub returns-in-Err : goal.returns-in-Err
 unfolding done_lines
-returns-else-code-eq0 c = rw (ne_eqb c.args.code 0 c.if-code-eq0.false) c.refused.ensures
+returns-in-Err c = rw (c.in-Err.is, ne_eqb (number_of c.in-Err.refusal) 0 (number_not_zero c.in-Err.refusal)) c.refused.ensures
