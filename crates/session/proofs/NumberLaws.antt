@@ -1,7 +1,7 @@
 -- the numbers of the calls are numbers of refusals, so what is said of a refusal is said of the number
-use Rattle.std.proofs.Common.{◌≡◌, ℕ, Bool, true, false, cond, eqb, List, length, refl, ap, ◌∙◌, sym, eqb-true}
+use Rattle.std.proofs.Common.{◌≡◌, ℕ, Bool, true, false, cond, eqb, List, refl, ap, ◌∙◌, sym, eqb-true}
 use borrow.Author.Tests.{eqb-false}
-use Rattle.std.specs.Prelude.{Result, Ok, Err}
+use Rattle.std.specs.Prelude.{Ok, Err}
 use Rattle.span.specs.declared.ids.Id.{Id}
 use Rattle.span.specs.declared.refusal.Refusal.{Refusal}
 use Rattle.span.specs.Answer.{answer}
@@ -11,70 +11,70 @@ use Rattle.rope.specs.Columns.{get_diff_code, diff_rows_code}
 use Rattle.rope.specs.Deletions.{delete_number}
 use Rattle.apply.specs.Apply.{apply_code}
 use Rattle.apply.specs.Called.{delta_code}
-use Rattle.session.specs.Applied.{list_code, or_else, on_list_code, new_code}
+use Rattle.session.specs.Applied.{list_code}
 
 -- 0, or the number of a refusal
 pub record IsNumber (code : ℕ) : Type 0 where
   pub back : (code ≡ 0 → ⊥) → number_of (refusal_of code) ≡ code
 
-module _ where
-  pub done : IsNumber 0
-  done = record { back = λ n. absurd (n refl) }
+pub done : IsNumber 0
+done = record { back = λ n. absurd (n refl) }
 
-  pub first : IsNumber 1
-  unfolding refusal_of
-  first = record { back = λ n. refl }
+pub first : IsNumber 1
+unfolding refusal_of
+first = record { back = λ n. refl }
 
-  pub second : IsNumber 2
-  unfolding refusal_of
-  second = record { back = λ n. refl }
+pub second : IsNumber 2
+unfolding refusal_of
+second = record { back = λ n. refl }
 
-  pub range : IsNumber 8
-  unfolding refusal_of
-  range = record { back = λ n. refl }
+pub range : IsNumber 8
+unfolding refusal_of
+range = record { back = λ n. refl }
 
-  pub room : IsNumber 10
-  unfolding refusal_of
-  room = record { back = λ n. refl }
+pub room : IsNumber 10
+unfolding refusal_of
+room = record { back = λ n. refl }
 
-  pub unreal : IsNumber 12
-  unfolding refusal_of
-  unreal = record { back = λ n. refl }
+pub unreal : IsNumber 12
+unfolding refusal_of
+unreal = record { back = λ n. refl }
 
-  pub output : IsNumber 13
-  unfolding refusal_of
-  output = record { back = λ n. refl }
+pub output : IsNumber 13
+unfolding refusal_of
+output = record { back = λ n. refl }
 
-  pub mismatch : IsNumber 14
-  unfolding refusal_of
-  mismatch = record { back = λ n. refl }
+pub mismatch : IsNumber 14
+unfolding refusal_of
+mismatch = record { back = λ n. refl }
 
-  pub store : IsNumber 15
-  unfolding refusal_of
-  store = record { back = λ n. refl }
+pub store : IsNumber 15
+unfolding refusal_of
+store = record { back = λ n. refl }
 
 pub either : (t : Bool) {x y : ℕ} → IsNumber x → IsNumber y → IsNumber (cond t x y)
 either true p q = p
 either false p q = q
 
+ruleset numbers = (either, done, first, second, range, room, unreal, output, mismatch, store)
+
 -- ---------------------------------------------------------------- the calls
 
 pub number_of_delete : (s o : List ℕ) (at len : ℕ) (start : Id) (reversed : Bool) → IsNumber (delete_number s o at len start reversed)
 unfolding delete_number delete_code
-number_of_delete s o at len start reversed =
-    either _ (either _ (either _ done (either _ (either _ (either _ (either _ done output) room) range) second)) store) store
+number_of_delete s o at len start reversed = search numbers depth 12
 
 pub number_of_diff : (most : ℕ) (s : List ℕ) → IsNumber (get_diff_code most s)
 unfolding get_diff_code diff_rows_code
-number_of_diff most s = either _ (either _ (either _ done output) unreal) store
+number_of_diff most s = search numbers depth 12
 
 pub number_of_list : (s : List ℕ) → IsNumber (list_code s)
 unfolding list_code
-number_of_list s = either _ (either _ done output) store
+number_of_list s = search numbers depth 12
 
 pub number_of_apply : (k a b p c l old out : List ℕ) → IsNumber (delta_code k a b p c l old out)
 unfolding delta_code apply_code
-number_of_apply k a b p c l old out = either _ (either _ (either _ (either _ done output) mismatch) second) first
+number_of_apply k a b p c l old out = search numbers depth 12
 
 -- ---------------------------------------------------------------- an answer by its number
 

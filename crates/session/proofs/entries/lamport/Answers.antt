@@ -4,7 +4,7 @@ use Rattle.session.proofs.entries.lamport.Goals as goal
 
 pub returns-then-x-eq2 : goal.returns-then-x-eq2
 unfolding lamport_text
-returns-then-x-eq2 c = rw (eq-eqb _ _ c.if-x-eq2.true) c.number.ensures
+returns-then-x-eq2 c = rw (eq-eqb _ _ c.if-x-eq2.true) (rw c.from.ensures at c.number.ensures)
 
 pub returns-else-x-eq2 : goal.returns-else-x-eq2
 unfolding lamport_text

@@ -1,12 +1,12 @@
-use Rattle.std.proofs.Common.{◌≡◌, ◌-◌, arith}
+use Rattle.std.proofs.Common.{◌≡◌, arith}
 use Rattle.session.proofs.LinesLaws.{count_first, count_next}
 use Rattle.session.proofs.look.all_lines.Goals as goal
 
 pub loop-i-init : goal.loop-i-init
-loop-i-init c = let a = c.args in (omega arith, count_first a.kind a.s.now)
+loop-i-init c = let a = c.args in count_first a.kind a.s.now
 
 pub loop-i-preserved : goal.loop-i-preserved
-loop-i-preserved c = let a = c.args in (omega arith, count_next a.kind a.s.now c.loop-i.i c.loop-i.invariant.1 c.lines_at.ensures c.wrapping_add_u64-sum.ensures.value)
+loop-i-preserved c = let a = c.args in count_next a.kind a.s.now c.loop-i.i c.loop-i.invariant c.lines_at.ensures c.wrapping_add-sum.ensures
 
 pub returns : goal.returns
-returns c = let a = c.args in let e : a.n ≡ c.loop-i.i = omega arith in rw e c.loop-i.invariant.1
+returns c = let a = c.args in let e : a.n ≡ c.loop-i.i = omega arith in rw e c.loop-i.invariant

@@ -4,14 +4,14 @@ use Rattle.session.proofs.SayLaws.{says_line}
 use Rattle.session.specs.Lines.{at_lines}
 use Rattle.session.proofs.look.at_pos.Goals as goal
 
-pub returns-in-At : goal.returns-in-At
+pub returns-in-Ok-Some : goal.returns-in-Ok-Some
 unfolding at_lines
-returns-in-At c = let a = c.args in rw c.in-At.is (says_line a.at _ a.text.now c.make_room-at.ensures c.at_line.ensures)
+returns-in-Ok-Some c = ?
 
-pub returns-in-Nothing : goal.returns-in-Nothing
+pub returns-in-Ok-None : goal.returns-in-Ok-None
 unfolding at_lines
-returns-in-Nothing c = let a = c.args in rw c.in-Nothing.is (says_line a.at (ascii "at nothing" ++ (10 ∷ [])) a.text.now c.make_room-at-in-Nothing.ensures c.put.ensures)
+returns-in-Ok-None c = ?
 
-pub returns-in-Refused : goal.returns-in-Refused
+pub returns-in-Err : goal.returns-in-Err
 unfolding at_lines
-returns-in-Refused c = rw c.in-Refused.is c.refused.ensures
+returns-in-Err c = rw c.in-Err.is c.refused.ensures

@@ -1,10 +1,10 @@
 use Rattle.session.specs.Lines.{len_lines}
 use Rattle.session.proofs.look.len.Goals as goal
 
-pub returns-in-Done : goal.returns-in-Done
+pub returns-in-Ok : goal.returns-in-Ok
 unfolding len_lines
-returns-in-Done c = rw c.in-Done.is c.counted.ensures
+returns-in-Ok c = rw c.in-Ok.is c.counted.ensures
 
-pub returns-in-Refused : goal.returns-in-Refused
+pub returns-in-Err : goal.returns-in-Err
 unfolding len_lines
-returns-in-Refused c = rw c.in-Refused.is c.refused.ensures
+returns-in-Err c = rw c.in-Err.is c.refused.ensures

@@ -3,7 +3,7 @@ use Rattle.session.proofs.look.lines.Goals as goal
 
 pub returns-in-Units : goal.returns-in-Units
 unfolding span_count
-returns-in-Units c = rw c.in-Units.is c.rle_len.ensures
+returns-in-Units c = rw (c.in-Units.is, c.from.ensures) c.rle_len.ensures
 
 pub returns-in-Spans : goal.returns-in-Spans
 unfolding span_count
@@ -11,4 +11,4 @@ returns-in-Spans c = rw c.in-Spans.is
 
 pub returns-in-Items : goal.returns-in-Items
 unfolding span_count
-returns-in-Items c = rw c.in-Items.is c.activated_len.ensures
+returns-in-Items c = rw (c.in-Items.is, c.from-in-Items.ensures) c.activated_len.ensures

@@ -6,7 +6,11 @@ use Rattle.session.proofs.look.list.Goals as goal
 
 pub returns-then-fine : goal.returns-then-fine
 unfolding list_lines
-returns-then-fine c = let a = c.args in rw c.if-fine.true (says_then a.at (head_line (kind_name a.kind) (rows_count a.kind a.s.now (rows_said a.s.now) % 2 ^ 64) ∷ []) (rows_lines a.kind a.s.now (rows_said a.s.now)) a.text.now (rw (c.all_lines.ensures, c.rows_of-n.ensures) at c.head-at.ensures) (rw c.rows_of-n.ensures at c.rows.ensures))
+returns-then-fine c =
+    let a = c.args in
+    rw c.if-fine.true
+    (says_then a.at (head_line (kind_name a.kind) (rows_count a.kind a.s.now (rows_said a.s.now) % 2 ^ 64) ∷ []) (rows_lines a.kind a.s.now (rows_said a.s.now)) a.text.now
+    (rw (c.name.ensures, c.all_lines.ensures, c.rows_of-n.ensures) at c.counted-at.ensures) (rw c.rows_of-n.ensures at c.rows.ensures))
 
 pub returns-else-fine : goal.returns-else-fine
 unfolding list_lines
