@@ -3,9 +3,12 @@ use Rattle.std.proofs.Common.{◌≡◌, ℕ, zero, suc, ◌+◌, ◌-◌, ◌<�
 use native.Mathlib.Numerals.{unary_clauses}
 use borrow.Author.Tests.{lt-leb}
 use lib.Seq.{take-nil, drop-nil}
+use Rattle.std.specs.List.{copy_within}
+use Rattle.text.specs.Bytes.{index_of}
 use Rattle.text.specs.Parts.{after}
 use Rattle.words.specs.Le.{put}
 use Rattle.words.proofs.Puts.{put-nil}
+use Rattle.words.proofs.Moves.{moved_to}
 use Rattle.session.specs.declared.input.Reader.{Reader}
 use Rattle.session.specs.declared.input.Filled.{Filled}
 use Rattle.session.specs.Input.{between, held, first_line, past_line, past_first, ReadBehind, kept_of, cut_of}
@@ -37,11 +40,9 @@ module _ (s : List ℕ) (from to : ℕ) where
   length-between h = ap length (between_in h) ∙ length-take-le (to - from) (drop from s) (rw length-drop (omega arith))
 
   -- moved to the front
-  pub front_some : {t : List ℕ} → to ≤ length s → t ≡ put 0 (take (to - from) (drop (0 + from) s)) s
+  pub front_some : {t : List ℕ} → from ≤ to → to ≤ length s → t ≡ copy_within s from to 0
       → (to - from ≡ length (between s from to)) × (t ≡ put 0 (between s from to) s)
-  front_some h e =
-      let z : 0 + from ≡ from = omega arith in
-      (sym (length-between h), e ∙ ap (λ (l : List ℕ). put 0 l s) (rw z (sym (between_in h))))
+  front_some f h e = (sym (length-between h), e ∙ moved_to s from to 0 f h ∙ ap (λ (l : List ℕ). put 0 l s) (sym (between_in h)))
 
   pub front_none : between s from to ≡ [] → (0 ≡ length (between s from to)) × (s ≡ put 0 (between s from to) s)
   front_none e = rw e (refl, sym (put-nil s 0))
@@ -122,11 +123,17 @@ past_held s r n = go (ltb n (r.to - r.from)) refl (leb r.to (length s)) refl
         let h : length s < r.to = leb-false r.to (length s) f in
         front ∙ sym (rw (between_out s r.from r.to h) nothing)
 
--- past the first line held, of n bytes: what is left is what stands after its end
-pub next_reader : (s : List ℕ) (r : Reader) (n : ℕ) {x : Reader} {h : List ℕ} → h ≡ held s r → take n h ≡ first_line h → drop (suc n) h ≡ after 10 h
-    → n ≤ length h → x ≡ past_line r n → (x ≡ past_first s r) × (held s x ≡ after 10 (held s r))
-next_reader s r n {x} {h} u t d l p =
-    let e : n ≡ length (first_line h) = sym (length-take-le n h l) ∙ ap length t in (
-      p ∙ ap (past_line r) (e ∙ ap (λ (k : List ℕ). length (first_line k)) u),
-      ap (held s) p ∙ past_held s r n ∙ ap (drop (suc n)) (sym u) ∙ d ∙ ap (after 10) u,
+-- what stands after the first k bytes and one more, where there may be fewer
+past_front : (k : ℕ) (h : List ℕ) → drop (suc (length (take k h))) h ≡ drop (suc k) h
+past_front zero h = refl
+past_front (suc k) [] = sym (drop-nil (suc (suc k)))
+past_front (suc k) (x ∷ h) = simp unary_clauses (past_front k h)
+
+-- past the first line held: what is left is what stands after its end
+pub next_reader : (s : List ℕ) (r : Reader) {n : ℕ} {x : Reader} {h : List ℕ} → h ≡ held s r → n ≡ length (first_line h) → x ≡ past_line r n
+    → (x ≡ past_first s r) × (held s x ≡ after 10 (held s r))
+next_reader s r {n} {x} {h} u e p =
+    let f : n ≡ length (first_line (held s r)) = e ∙ ap (λ (k : List ℕ). length (first_line k)) u in (
+      p ∙ ap (past_line r) f,
+      ap (held s) (p ∙ ap (past_line r) f) ∙ past_held s r (length (first_line (held s r))) ∙ past_front (index_of 10 (held s r)) (held s r),
     )

@@ -1,5 +1,5 @@
 // What works on whatever is open: questions, the list printed, and rows written as they are said.
-ghost use Rattle.std.specs.Prelude.{◌≡◌, ◌%◌, ◌^◌, [], ◌∷◌};
+ghost use Rattle.std.specs.Prelude.{◌≡◌, ◌+◌, ◌%◌, ◌^◌, ◌<◌, [], ◌∷◌};
 ghost use Rattle.span.specs.Span.{slice_span_of};
 ghost use Rattle.units.specs.Store.{is_state};
 ghost use Rattle.tracker.specs.Rows.{is_history};
@@ -21,9 +21,8 @@ use text::puts::{put, put_hex};
 pub fn row_of(s: &[u8], i: usize) -> Option<FugueSpan>
     ensures { result ≡ row_of s.now i }
 {
-    let row = i.checked_add(1)?;
-    if row < s.len() / 72 {
-        Some(store::get_row(s, row))
+    if i < (s.len() / 72).saturating_sub(1) {
+        Some(store::get_row(s, i + 1))
     } else {
         None
     }
@@ -80,6 +79,7 @@ pub enum Kind {
 
 impl Kind {
     // The word before their number.
+    #[tactic(auto, unfolding(crate::specs::Lines::kind_name))]
     fn name(self) -> &'static [u8]
         ensures { result.now ≡ kind_name self }
     {

@@ -1,12 +1,17 @@
-use Rattle.std.proofs.Common.{arith}
+use Rattle.std.proofs.Common.{◌≡◌, [], arith}
+use Rattle.session.specs.Input.{between}
 use Rattle.session.proofs.InputLaws.{between_out, between_none, front_some, front_none}
 use Rattle.session.proofs.input.to_front.Goals as goal
+use Rattle.session.proofs.input.to_front.Goals.{else-to-bytes-via-then-to-bytes+else-from-to, else-to-bytes-via-else-to-bytes}
 
 pub returns-then-from-to : goal.returns-then-from-to
-returns-then-from-to c = front_some _ _ _ (omega arith) c.down.ensures
-
-pub returns-else-from-to : goal.returns-else-from-to
-returns-else-from-to c = let a = c.args in front_none a.bytes.now a.from a.to (between_none _ _ _ (omega arith))
+returns-then-from-to c = front_some _ _ _ c.if-from-to.true c.if-to-bytes.true c.copy_within.ensures.after
 
 pub returns-else-to-bytes : goal.returns-else-to-bytes
-returns-else-to-bytes c = let a = c.args in front_none a.bytes.now a.from a.to (between_out _ _ _ (omega arith))
+returns-else-to-bytes c =
+    let a = c.args in
+    let e : between a.bytes.now a.from a.to ≡ [] = elim c.else-to-bytes.branch [
+      else-to-bytes-via-then-to-bytes+else-from-to w ↦ between_none _ _ _ (omega arith)
+    | else-to-bytes-via-else-to-bytes w ↦ between_out _ _ _ (omega arith)
+    ] in
+    front_none a.bytes.now a.from a.to e

@@ -6,11 +6,11 @@ use Rattle.session.proofs.look.at_pos.Goals as goal
 
 pub returns-in-Ok-Some : goal.returns-in-Ok-Some
 unfolding at_lines
-returns-in-Ok-Some c = ?
+returns-in-Ok-Some c = let a = c.args in let m = c.in-Ok-Some in rw (m.is, m.field-0-is) (says_line a.at _ a.text.now c.make_room-at.ensures c.at_line.ensures)
 
 pub returns-in-Ok-None : goal.returns-in-Ok-None
 unfolding at_lines
-returns-in-Ok-None c = ?
+returns-in-Ok-None c = let a = c.args in let m = c.in-Ok-None in rw (m.is, m.field-0-is) (says_line a.at (ascii "at nothing" ++ (10 ∷ [])) a.text.now c.make_room-at-in-Ok-None.ensures c.put.ensures)
 
 pub returns-in-Err : goal.returns-in-Err
 unfolding at_lines

@@ -6,7 +6,4 @@ pub returns-then-n-self : goal.returns-then-n-self
 returns-then-n-self c = past_some _ _ (omega arith)
 
 pub returns-else-n-self : goal.returns-else-n-self
-returns-else-n-self c = past_none _ _ (omega arith)
-
-pub returns-else-self : goal.returns-else-self
-returns-else-self c = past_none _ _ (omega arith)
+returns-else-n-self c = ?
