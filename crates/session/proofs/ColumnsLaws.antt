@@ -1,7 +1,15 @@
 -- a version's pairs put into columns, as a loop over them meets them
-use Rattle.std.proofs.Common.{◌≡◌, ℕ, suc, ◌+◌, ◌-◌, ◌<◌, ◌≤◌, List, ap, ◌∙◌, add-one, arith}
+use Rattle.std.proofs.Common.{◌≡◌, ℕ, Bool, true, false, cond, ltb, min, suc, ◌+◌, ◌-◌, ◌<◌, ◌≤◌, List, ap, ◌∙◌, add-one, arith, refl, ltb-true, ltb-false}
 use Rattle.script.specs.Version.{pair_of}
-use Rattle.session.specs.Columns.{pairs_taken, peer_put, count_put, peers_put, counts_put, peers_in, counts_in}
+use Rattle.session.specs.Columns.{up_to32, pairs_taken, peer_put, count_put, peers_put, counts_put, peers_in, counts_in}
+
+pub taken : (n : ℕ) → min n 32 ≡ up_to32 n
+unfolding up_to32
+taken n = go (ltb n 32) refl
+  where
+    go : (t : Bool) → ltb n 32 ≡ t → min n 32 ≡ cond t n 32
+    go true e = let h : n < 32 = ltb-true n 32 e in omega arith
+    go false e = let h : 32 ≤ n = ltb-false n 32 e in omega arith
 
 module _ (w : List ℕ) (n i : ℕ) where
   step : i < n → n - i ≡ suc (n - (i + 1))

@@ -4,6 +4,11 @@ use native.Mathlib.Numerals.{unary_clauses}
 use borrow.Author.Tests.{lt-leb}
 use lib.Seq.{take-nil, drop-nil}
 use Rattle.std.specs.List.{copy_within}
+use Rattle.std.specs.Prelude.{Option, Some, None}
+use Rattle.std.specs.Option.{UnwrapsOrElse}
+use Rattle.std.specs.Slice.{IsGetRangeResult}
+use mathlib.Core.Logic.{◌⊎◌, inl, inr}
+use denote.Bor.{Bor}
 use Rattle.text.specs.Bytes.{index_of}
 use Rattle.text.specs.Parts.{after}
 use Rattle.words.specs.Le.{put}
@@ -35,6 +40,15 @@ module _ (s : List ℕ) (from to : ℕ) where
       go : (b : Bool) → cond b (take 0 (drop from s)) [] ≡ []
       go true = refl
       go false = refl
+
+  between_missing : (to < from) ⊎ (length s < to) → between s from to ≡ []
+  between_missing (inl h) = between_none (omega arith)
+  between_missing (inr h) = between_out h
+
+  -- a part that may be missing
+  pub between_get : (o : Option (Bor (List ℕ))) (r : Bor (List ℕ)) → IsGetRangeResult s from to o → UnwrapsOrElse o (λ (x : Bor (List ℕ)). x.now ≡ []) r → r.now ≡ between s from to
+  between_get None r g e = e ∙ sym (between_missing g.0)
+  between_get (Some x) r g e = let h = g.0 in ap (λ (y : Bor (List ℕ)). y.now) e ∙ h.2 ∙ sym (between_in h.1)
 
   pub length-between : to ≤ length s → length (between s from to) ≡ to - from
   length-between h = ap length (between_in h) ∙ length-take-le (to - from) (drop from s) (rw length-drop (omega arith))
@@ -127,7 +141,7 @@ past_held s r n = go (ltb n (r.to - r.from)) refl (leb r.to (length s)) refl
 past_front : (k : ℕ) (h : List ℕ) → drop (suc (length (take k h))) h ≡ drop (suc k) h
 past_front zero h = refl
 past_front (suc k) [] = sym (drop-nil (suc (suc k)))
-past_front (suc k) (x ∷ h) = simp unary_clauses (past_front k h)
+past_front (suc k) (x ∷ h) = past_front k h
 
 -- past the first line held: what is left is what stands after its end
 pub next_reader : (s : List ℕ) (r : Reader) {n : ℕ} {x : Reader} {h : List ℕ} → h ≡ held s r → n ≡ length (first_line h) → x ≡ past_line r n

@@ -67,7 +67,8 @@ fn has_line(bytes: &[u8], r: Reader) -> bool
     ensures { result ≡ has_line (held bytes.now r) }
 {
     let held = unread(bytes, r);
-    before(held, b'\n').len() < held.len()
+    let line = before(held, b'\n');
+    line.len() < held.len()
 }
 
 // Answers the first line.

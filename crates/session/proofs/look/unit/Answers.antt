@@ -17,4 +17,4 @@ returns-in-Items c = rw (sym c.slice.ensures ∙ c.in-Ok.is, c.in-Items.is) (rw 
 
 pub returns-in_default : goal.returns-in_default
 unfolding unit_lines
-returns-in_default c = ?
+returns-in_default c = let a = c.args in rw (sym c.slice.ensures ∙ c.in_default.is) (says_none a.at a.text.now)
