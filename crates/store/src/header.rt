@@ -5,6 +5,7 @@ ghost use Rattle.store.specs.Header.{count, room, header_bytes, header_words};
 
 use crate::Words;
 use crate::limits::ROWS;
+use crate::list::WIDTH;
 
 // The number of rows that the header says.
 pub fn count(s: &[u8]) -> u64
@@ -19,7 +20,7 @@ pub fn count(s: &[u8]) -> u64
 pub fn room(s: &[u8]) -> usize
     ensures { result ≡ room s.now }
 {
-    (s.len().saturating_sub(72) / 72).min(ROWS)
+    (s.len().saturating_sub(WIDTH) / WIDTH).min(ROWS)
 }
 
 // Another number of rows; the rest of the header stays.

@@ -9,8 +9,9 @@ ghost use Rattle.std.specs.Prelude.{◌≡◌, ◌+◌, ◌-◌, ◌*◌, ◌≤
 ghost use Rattle.std.specs.Int.{w16, w32};
 ghost use Rattle.std.proofs.Common.{SFits};
 ghost use Rattle.words.specs.Le.{put};
-ghost use Rattle.store.specs.Row.{rows, row_at, words_at, word_bytes, span_of, words_of, id_of, bits32, bits16, status_of, opt_of, maybe_of, peer_of, ctr_of, has_of, has_status, future_of, times_of, bit_of, low_of, flags_of, Signed, PutRow};
+ghost use Rattle.store.specs.Row.{rows, row_at, words_at, word_bytes, span_of, words_of, id_of, bits32, bits16, status_of, opt_of, maybe_of, peer_of, ctr_of, has_of, has_status, future_of, times_of, low_of, flags_of, Signed, PutRow};
 
+use list::WIDTH;
 use span::chunk::RichtextChunk;
 use span::ids::Id;
 use span::span::FugueSpan;
@@ -82,13 +83,7 @@ pub fn diff_bits(d: Option<Status>) -> u16
     d.map_or(0, |status| times_bits(status))
 }
 
-// A flag as the lowest bit of a word, and back.
-pub fn bit(b: bool) -> u32
-    ensures { (result ≡ bit_of b) × (result < 2) }
-{
-    u32::from(b)
-}
-
+// A flag, which is the lowest bit of a word.
 pub fn low(w: u32) -> bool
     ensures { result ≡ low_of w }
 {
@@ -231,7 +226,7 @@ pub fn get_row(s: &[u8], i: usize) -> FugueSpan
     requires { i * 72 + 72 ≤ length s.now }
     ensures { result ≡ row_at s.now (i * 72) }
 {
-    span_of(get_words(s, i * 72))
+    span_of(get_words(s, i * WIDTH))
 }
 
 // Row i becomes the span.
@@ -239,7 +234,7 @@ pub fn put_row(s: &mut [u8], i: usize, x: FugueSpan)
     requires { i * 72 + 72 ≤ length s.old }
     ensures { PutRow i x s.old s.new }
 {
-    put_words(s, i * 72, words_of(x))
+    put_words(s, i * WIDTH, words_of(x))
 }
 
 // The rows of s are n, with room for one more. x goes before row i.
@@ -247,7 +242,7 @@ pub fn insert_row(s: &mut [u8], n: usize, i: usize, x: FugueSpan)
     requires { (n * 72 + 72 ≤ length s.old) × (i ≤ n) }
     ensures { rows (n + 1) s.new ≡ take i (rows n s.old) ++ x ∷ drop i (rows n s.old) }
 {
-    s.copy_within(i * 72..n * 72, i * 72 + 72);
+    s.copy_within(i * WIDTH..n * WIDTH, i * WIDTH + WIDTH);
     put_row(s, i, x)
 }
 
@@ -256,5 +251,5 @@ pub fn remove_rows(s: &mut [u8], n: usize, i: usize, k: usize)
     requires { (n * 72 ≤ length s.old) × (i + k ≤ n) }
     ensures { rows (n - k) s.new ≡ take i (rows n s.old) ++ drop (i + k) (rows n s.old) }
 {
-    s.copy_within((i + k) * 72..n * 72, i * 72);
+    s.copy_within((i + k) * WIDTH..n * WIDTH, i * WIDTH);
 }

@@ -181,7 +181,7 @@ fn words_of(act: Does) -> Words
             },
         },
         Does::Delete(len, reversed, start) => Words {
-            kind: 1 + 2 * store::bit(reversed),
+            kind: 1 + 2 * u32::from(reversed),
             lamport: 0,
             first: len,
             last: 0,
