@@ -10,7 +10,7 @@ use Rattle.span.specs.Maybe.{OptId}
 use Rattle.std.specs.Prelude.{None as Nothing, Some as At}
 use Rattle.span.specs.declared.span.FugueSpan.{FugueSpan}
 use Rattle.units.specs.declared.place.Verdict.{Verdict}
-use Rattle.units.specs.Place.{has_ol, pr_pos, parent_right, verdict, run, up_to, behind, scan_place}
+use Rattle.units.specs.Place.{has_ol, pr_pos, parent_right, verdict, run, up_to, scan_place}
 use Rattle.fugue.specs.Tree.{ref, ol, pr_of}
 use Rattle.fugue.proofs.Order.{Tri, tlt, teq, tgt, Older, older_no}
 use Rattle.fugue.proofs.Keys.{Key, Lt, Lt-irrefl, Lt-trans, Lt-asym, tri}

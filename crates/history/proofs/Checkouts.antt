@@ -17,7 +17,6 @@ use Rattle.span.specs.Status.{activated}
 use Rattle.span.specs.Units as Units
 use Rattle.units.specs.Place.{front, behind}
 use Rattle.units.specs.Change.{with_state, delete_unit, delete_first, delete_units}
-use Rattle.units.specs.Query.{placeholder}
 use Rattle.fugue.specs.Tree.{ref}
 use Rattle.fugue.proofs.Keys.{Key}
 use Rattle.fugue.proofs.ScanPlace.{Mem}
@@ -30,7 +29,7 @@ use Rattle.history.specs.Checkout as Co
 use Rattle.history.specs.Arrive.{act_took}
 use Rattle.history.specs.Codes.{inside}
 use Rattle.history.proofs.Plain.{plain, plain_same}
-use Rattle.history.proofs.Context.{Known, before, known_or, before_known, before_unknown, base}
+use Rattle.history.proofs.Context.{Known, before, known_or, before_known, before_unknown}
 use Rattle.history.proofs.Run.{MemE, MemH, span_of, Src, Run}
 use Rattle.history.proofs.Stable.{plain_list_at, view_list, plain_alike, plain_mem}
 use Rattle.history.proofs.WellUnits.{units_at_lem}

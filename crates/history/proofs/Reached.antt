@@ -7,7 +7,7 @@ use mathlib.Core.List.{List, [], ◌∷◌, ◌++◌}
 use lib.Dec.{eqb, ltb}
 use lib.ListN.{length}
 use Rattle.span.specs.Maybe.{OptId}
-use Rattle.units.specs.Limits.{EDITS, fits}
+use Rattle.units.specs.Limits.{EDITS}
 use Rattle.units.specs.declared.diff.Entry.{Entry}
 use Rattle.fugue.proofs.Keys.{Key}
 use Rattle.history.specs.Edit.{Version, Edit, History}

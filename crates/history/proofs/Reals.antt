@@ -14,7 +14,7 @@ use Rattle.std.specs.Prelude.{None as Nothing, Some as At}
 use Rattle.span.specs.declared.span.FugueSpan.{FugueSpan}
 use Rattle.span.specs.Ids.{UNKNOWN_PEER, inc_id, inc_opt}
 use Rattle.span.proofs.IdsLaws.{inc_opt_zero}
-use Rattle.span.specs.Status.{status, activated}
+use Rattle.span.specs.Status.{activated}
 use Rattle.span.specs.declared.span.DiffStatus.TheVariants.{NotChanged, Created, Deleted}
 use Rattle.span.specs.Span.{new_span, real_new, shift, diff_of, len_span}
 use Rattle.span.proofs.SpanLaws.{span_ok}

@@ -13,7 +13,7 @@ use Rattle.span.specs.declared.ids.Id.{Id}
 use Rattle.span.specs.Maybe.{OptId}
 use Rattle.std.specs.Prelude.{Some as At}
 use Rattle.span.specs.declared.span.FugueSpan.{FugueSpan}
-use Rattle.span.specs.Chunk.{formed, len_of}
+use Rattle.span.specs.Chunk.{len_of}
 use Rattle.span.specs.Ids.{UNKNOWN_PEER, room_opt, inc_id}
 use Rattle.span.specs.Status.{activated}
 use Rattle.span.specs.Span.{new_span}

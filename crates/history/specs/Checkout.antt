@@ -1,5 +1,5 @@
 -- What a version shows. A unit's status at a version depends on its id, the version and the deletes, never on its old status. Assumes nothing.
-use Rattle.std.specs.Prelude.{ℕ, suc, ◌+◌, Bool, not, ◌&&◌, List, [], ◌∷◌, map, pos, ◌+ℤ◌, if◌then◌else◌, ◌==◌}
+use Rattle.std.specs.Prelude.{ℕ, suc, Bool, not, ◌&&◌, List, [], ◌∷◌, map, pos, ◌+ℤ◌, if◌then◌else◌, ◌==◌}
 use Rattle.std.specs.Int.Signed.{le_z, lt_z}
 use Rattle.span.specs.declared.ids.Id.{Id}
 use Rattle.span.specs.declared.status.Status.{Status}

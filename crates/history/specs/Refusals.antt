@@ -7,7 +7,7 @@ use Rattle.span.specs.Units.{tab}
 use Rattle.units.specs.declared.diff.Entry.TheVariants.{Retain}
 use Rattle.units.specs.declared.diff.Entry.TheVariants as D
 use Rattle.std.specs.Prelude.{None}
-use Rattle.history.specs.Edit.{Version, Insert, Delete, Edit, History}
+use Rattle.history.specs.Edit.{Version, Insert, Edit, History}
 use Rattle.apply.specs.declared.item.Item.{Item}
 use Rattle.std.specs.Prelude.{Some as Known, None as Strange}
 use Rattle.history.specs.Apply.{apply_code}

@@ -1,5 +1,5 @@
 -- Edits handed over one after another, up to and including the first that is refused. Assumes nothing.
-use Rattle.std.specs.Prelude.{ℕ, suc, ◌+◌, List, [], ◌∷◌, length, if◌then◌else◌, nat_lt, ◌==◌}
+use Rattle.std.specs.Prelude.{ℕ, ◌+◌, List, [], ◌∷◌, length, if◌then◌else◌, nat_lt, ◌==◌}
 use Rattle.units.specs.Limits.{EDITS}
 use Rattle.units.specs.Codes.{unless}
 use Rattle.history.specs.Edit.{Edit, History}
