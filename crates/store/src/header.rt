@@ -37,18 +37,7 @@ fn header_words(n: u64) -> Words
 {
     Words {
         p0: n,
-        p1: 0,
-        p2: 0,
-        p3: 0,
-        c0: 0,
-        c1: 0,
-        c2: 0,
-        c3: 0,
-        c4: 0,
-        c5: 0,
-        c6: 0,
-        c7: 0,
-        c8: 0,
+        ..Words::default()
     }
 }
 

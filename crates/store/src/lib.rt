@@ -91,7 +91,7 @@ pub fn low(w: u32) -> bool
 }
 
 // The words of a row: what stands in the bytes, before it means anything. The last four bytes of a row are spare.
-#[derive(Clone, Copy)]
+#[derive(Clone, Copy, Debug, Default, PartialEq, Eq)]
 pub struct Words {
     pub p0: u64,
     pub p1: u64,
