@@ -1,16 +1,14 @@
 -- the steps of a definition by tests and by cases, as a function's returns meet them
 use mathlib.Core.Path.{◌≡◌}
 use mathlib.Core.List.{List}
-use Rattle.std.specs.Prelude.{Option, None, Some}
+use Rattle.std.specs.Prelude.{Option, Some}
 use Rattle.span.specs.declared.chunk.RichtextChunk.{RichtextChunk}
 use Rattle.span.specs.declared.ids.Id.{Id}
 use Rattle.span.specs.declared.status.Status.{Status}
 use Rattle.span.specs.Maybe.{OptId, OptStatus}
 use Prim.Native.Nat.{ℕ}
 use Rattle.text.specs.Parts.{parts}
-use Rattle.text.specs.Numbers.{fit32, signed_of}
-use Rattle.store.specs.Row.{id_of}
-use Rattle.script.specs.Field.{word_of, number_of, peer_of, id_from, id_word, opt_word, status_word, diff_word, raw_from, three_words, span_by, span_of}
+use Rattle.script.specs.Field.{word_of, number_of, id_word, opt_word, status_word, diff_word, raw_from, span_by, span_of}
 
 pub raw_is : (a b : List ℕ) (n m : ℕ) → number_of a ≡ Some n → number_of b ≡ Some m → Some (record { start = n; end = m }) ≡ raw_from a b
 unfolding raw_from

@@ -3,7 +3,7 @@
 use mathlib.Core.Path.{◌≡◌, refl, sym, ap, ap₂, ◌∙◌}
 use mathlib.Core.Bool.{Bool, true, false, cond}
 use mathlib.Core.List.{List, [], ◌∷◌, ◌++◌, append_assoc}
-use Rattle.std.specs.Prelude.{Option, None, Some}
+use Rattle.std.specs.Prelude.{None, Some}
 use Prim.Native.Nat.{ℕ, ◌^◌, ◌≤◌, ◌<◌}
 use native.Mathlib.Omega.{arith}
 use borrow.Author.Tests.{eqb-true}
@@ -14,7 +14,7 @@ use mir.Syntax.{w16, w32}
 use mir.Val.{SFits}
 use Rattle.text.specs.Ascii.{ascii}
 use Rattle.text.specs.Parts.{rest, parts, same_text}
-use Rattle.text.specs.Numbers.{is_digit, all_digits, up_to, decimal_of, int_of, numeral, int_text}
+use Rattle.text.specs.Numbers.{is_digit, all_digits, up_to, decimal_of, numeral, int_text}
 use Rattle.text.proofs.NumeralLaws.{decimal_numeral}
 use Rattle.text.proofs.PartsLaws.{same_equal}
 use Rattle.text.proofs.CutLaws.{Lacks, lacks_append, before_cut, after_cut, rest_cut, same_lacks, joined, AllLack, part-joined, parts-joined, numeral_lacks, int_lacks}

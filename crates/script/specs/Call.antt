@@ -12,7 +12,6 @@ use Rattle.script.specs.declared.call.HistoryCall.{HistoryCall}
 use Rattle.script.specs.declared.call.HistoryCall.TheVariants as History
 use Rattle.script.specs.declared.call.Look.TheVariants as Look
 use Rattle.script.specs.declared.call.Call.{Call}
-use Rattle.script.specs.declared.call.Call.TheVariants as Call
 use Rattle.span.specs.declared.chunk.RichtextChunk.{RichtextChunk}
 use Rattle.span.specs.declared.ids.Id.{Id}
 use Rattle.span.specs.declared.span.FugueSpan.{FugueSpan}

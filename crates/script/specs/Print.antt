@@ -10,7 +10,6 @@ use Rattle.span.specs.declared.span.FugueSpan.{FugueSpan}
 use Rattle.span.specs.declared.chunk.RichtextChunk.{RichtextChunk}
 use Rattle.span.specs.declared.chunk.RichtextChunkValue.{RichtextChunkValue}
 use Rattle.span.specs.declared.chunk.RichtextChunkValue.TheVariants as Value
-use Rattle.span.specs.declared.chunk.AnchorType.{AnchorType}
 use Rattle.span.specs.declared.chunk.AnchorType.TheVariants as Anchor
 use Rattle.span.specs.Ids.{UNKNOWN_PEER}
 use Rattle.span.specs.Chunk.{value_of}

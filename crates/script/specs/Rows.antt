@@ -5,8 +5,6 @@ use Rattle.text.specs.Parts.{rest, parts}
 use Rattle.text.specs.Numbers.{is_digit, all_digits, value, up_to, decimal_of, places, numeral, int_text, int_of, fit}
 use Rattle.span.specs.Chunk.{by_start, chunk, move_chunk}
 use Rattle.span.specs.Ids.{id, UNKNOWN_PEER}
-use Rattle.script.specs.declared.call.Insert.{Insert}
-use Rattle.script.specs.declared.call.Delete.{Delete}
 use Rattle.units.specs.declared.change.SetFuture.TheVariants as Set
 use Rattle.script.specs.declared.call.RopeCall.TheVariants as Rope
 use Rattle.script.specs.declared.call.HistoryCall.TheVariants as History

@@ -1,5 +1,5 @@
 -- A version or context as a word (docs/SCRIPT.md): `-` where it is empty, else pairs PEER:COUNT with commas (44) between, in the order written.
-use Rattle.std.specs.Prelude.{ℕ, zero, suc, Bool, true, false, ◌&&◌, List, Option, is_some, if◌then◌else◌}
+use Rattle.std.specs.Prelude.{ℕ, zero, suc, Bool, true, ◌&&◌, List, Option, is_some, if◌then◌else◌}
 use Rattle.text.specs.Ascii.{ascii}
 use Rattle.text.specs.Parts.{before, after, part, parts, same_text}
 use Rattle.span.specs.declared.ids.Id.{Id}
