@@ -1,6 +1,6 @@
 -- the cut that a change makes in a span, and what is left of a delete after it
 use Prim.Native.Nat.{ℕ, ◌+◌, ◌-◌, ◌<◌, ◌≤◌, min}
-use mathlib.Core.Path.{◌≡◌, refl, sym, ap, ap₂, subst, ◌∙◌}
+use mathlib.Core.Path.{◌≡◌, refl, sym, ap, ap₂, subst}
 use mathlib.Core.Bool.{Bool, true, false, not, cond, true≢false, false≢true, and-eq-true_iff}
 use native.Mathlib.Omega.{arith}
 use lib.Dec.{eqb}
@@ -11,20 +11,13 @@ use Rattle.std.specs.Prelude.{Some as At}
 use Rattle.span.specs.declared.status.Status.{Status}
 use Rattle.span.specs.declared.span.FugueSpan.{FugueSpan}
 use Rattle.span.specs.Ids.{UNKNOWN_PEER, room, room_of, room_opt, inc_id}
-use Rattle.span.specs.Maybe.{Counter}
-use Rattle.std.specs.Prelude.{Some, None, Ok, Err}
-use Rattle.span.specs.Refusal.{refused}
-use Rattle.span.specs.Maybe.{StatusAnswer}
-use Rattle.std.specs.Prelude as OptS
-use Rattle.span.specs.Status.{status, eq_z, activated, in_i16, times_of, counter_of}
+use Rattle.span.specs.Status.{status, eq_z, activated}
 use Rattle.span.specs.Span.{len_span, active_len}
 use Rattle.rope.specs.declared.change.Delete.{Delete}
 use Rattle.rope.specs.declared.change.Update.{Update}
 use Rattle.rope.specs.declared.change.Change.{Change}
 use Rattle.rope.specs.declared.change.Change.TheVariants as Ch
-use Rattle.units.specs.declared.change.SetFuture.{SetFuture}
 use Rattle.rope.specs.declared.change.Part.{Part}
-use Rattle.units.specs.Change.{with_state, set_future, change_status, base_of, update_unit}
 use Rattle.rope.specs.Pieces.{part, delete_cut, took_of, delete_after, CanDelete, part_at, part_from, update_cut, cut_of, after_of, CanCut}
 use Rattle.rope.proofs.Seeks.{active_most}
 
@@ -106,26 +99,7 @@ gone s e = ap₂ status (fut s.future t.0) (ap (λ (z : ℤ). z +ℤ pos 1) (zer
 
 -- ---- an update
 
-neg≢at : (c : ℕ) → None ≡ Some c → false ≡ true
-neg≢at c e = ap is e
-  where
-    is : Counter → Bool
-    is None = false
-    is (Some k) = true
-
 module _ (u : Update) (n : ℕ) where
-  pub from_negative : (z : ℤ) → None ≡ counter_of z → part 0 0 ≡ part_from u z n
-  from_negative (pos k) e = absurd (false≢true (neg≢at k e))
-  from_negative (negsuc k) e = refl
-
-  pub from_at : (z : ℤ) (c : ℕ) → Some c ≡ counter_of z → part_at u c n ≡ part_from u z n
-  from_at (pos k) c e = ap (λ (m : ℕ). part_at u m n) (ap value e)
-    where
-      value : Counter → ℕ
-      value None = 0
-      value (Some k) = k
-  from_at (negsuc k) c e = absurd (false≢true (neg≢at c (sym e)))
-
   from_most : (z : ℤ) → ((part_from u z n).from ≤ n) × ((part_from u z n).to ≤ n)
   unfolding part_at
   from_most (pos k) = (omega arith, omega arith)
@@ -143,67 +117,6 @@ module _ (u : Update) (s : FugueSpan) where
       go : (t : Bool) → ((cond t (part_from u s.id.counter (len_span s)) (part 0 0)).from ≤ len_span s) × ((cond t (part_from u s.id.counter (len_span s)) (part 0 0)).to ≤ len_span s)
       go true = from_most u (len_span s) s.id.counter
       go false = (omega arith, omega arith)
-
--- a status whose count is changed
-module _ (f : SetFuture) (k : ℤ) (b : Status) (in_range_lem : in_i16 (b.delete_times +ℤ k) ≡ true) where
-  times_done : times_of b k ≡ Ok (status b.future (b.delete_times +ℤ k))
-  unfolding times_of
-  times_done = rw in_range_lem
-
-  pub status_done : (s : Status) → Ok s ≡ times_of b k → status (set_future f s.future) s.delete_times ≡ change_status f k b
-  unfolding change_status
-  status_done s e = ap (λ (t : Status). status (set_future f t.future) t.delete_times) (ap value (e ∙ times_done))
-    where
-      value : StatusAnswer → Status
-      value (Ok t) = t
-      value (Err n) = b
-
-  pub status_refused : (n : ℕ) → refused n ≡ times_of b k → b ≡ change_status f k b
-  status_refused n e = absurd (false≢true (ap is (e ∙ times_done)))
-    where
-      is : StatusAnswer → Bool
-      is (Ok t) = true
-      is (Err n) = false
-
--- whether a change of a count is refused
-module _ (b : Status) (k : ℤ) where
-  times_by : (t : Bool) → in_i16 (b.delete_times +ℤ k) ≡ t → times_of b k ≡ cond t (Ok (status b.future (b.delete_times +ℤ k))) (refused 11)
-  unfolding times_of
-  times_by t e = ap (λ (c : Bool). cond c (Ok (status b.future (b.delete_times +ℤ k))) (refused 11)) e
-
-  is_done : StatusAnswer → Bool
-  is_done (Ok s) = true
-  is_done (Err n) = false
-
-  by_answer : in_i16 (b.delete_times +ℤ k) ≡ is_done (times_of b k)
-  unfolding is_done
-  by_answer = go (in_i16 (b.delete_times +ℤ k)) refl
-    where
-      go : (t : Bool) → in_i16 (b.delete_times +ℤ k) ≡ t → in_i16 (b.delete_times +ℤ k) ≡ is_done (times_of b k)
-      go true e = e ∙ sym (ap is_done (times_by true e))
-      go false e = e ∙ sym (ap is_done (times_by false e))
-
-  pub times_yes : (s : Status) → Ok s ≡ times_of b k → true ≡ in_i16 (b.delete_times +ℤ k)
-  unfolding is_done
-  times_yes s e = ap is_done e ∙ sym by_answer
-
-  pub times_no : (n : ℕ) → refused n ≡ times_of b k → false ≡ in_i16 (b.delete_times +ℤ k)
-  unfolding is_done
-  times_no n e = ap is_done e ∙ sym by_answer
-
--- a piece that is updated
-module _ (f : SetFuture) (k : ℤ) (u : FugueSpan) (new : Status) (diff : Bool) (e : new ≡ change_status f k (base_of diff u)) where
-  pub updated_diff : diff ≡ true → with_state u u.status (OptS.Some new) u.real_id ≡ update_unit f k diff u
-  unfolding update_unit
-  updated_diff d =
-      ap (λ (t : Status). with_state u u.status (OptS.Some t) u.real_id) e ∙
-      ap (λ (b : Bool). cond b (with_state u u.status (OptS.Some (change_status f k (base_of diff u))) u.real_id) (with_state u (change_status f k (base_of diff u)) u.diff_status u.real_id)) (sym d)
-
-  pub updated : diff ≡ false → with_state u new u.diff_status u.real_id ≡ update_unit f k diff u
-  unfolding update_unit
-  updated d =
-      ap (λ (t : Status). with_state u t u.diff_status u.real_id) e ∙
-      ap (λ (b : Bool). cond b (with_state u u.status (OptS.Some (change_status f k (base_of diff u))) u.real_id) (with_state u (change_status f k (base_of diff u)) u.diff_status u.real_id)) (sym d)
 
 -- ---- either
 

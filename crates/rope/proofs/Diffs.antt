@@ -10,7 +10,6 @@ use borrow.Author.Tests.{eqb-true}
 use Rattle.span.specs.declared.span.FugueSpan.{FugueSpan}
 use Rattle.span.specs.declared.span.DiffStatus.{DiffStatus}
 use Rattle.span.specs.declared.span.DiffStatus.TheVariants.{NotChanged, Created, Deleted}
-use Rattle.span.specs.Ids.{UNKNOWN_PEER}
 use Rattle.span.specs.Status.{activated}
 use Rattle.span.specs.Span.{len_span, active_len, diff_of}
 use Rattle.span.specs.Units.{expand}
@@ -21,10 +20,9 @@ use Rattle.std.specs.Prelude.{Option, None, Some}
 use Rattle.std.specs.Prelude.{None as Same, Some as Is}
 use Rattle.rope.specs.declared.diff.Step.{Step}
 use Rattle.units.specs.Lists.{every}
-use Rattle.std.specs.Prelude.{None as Nothing, Some as At}
 use Rattle.units.specs.declared.diff.Entry.{Entry}
 use Rattle.units.specs.declared.diff.Entry.TheVariants.{Retain, Delete}
-use Rattle.units.specs.Delta.{lamport_of, insert_of_span, real_if_created, insertable, retain, entry_by, entries_from, entries}
+use Rattle.units.specs.Delta.{insert_of_span, insertable, retain, entry_by, entries_from, entries}
 use Rattle.rope.specs.Spans.{Stored}
 use Rattle.rope.specs.Columns.{change_by, change_of, step, step_by, Ahead, NextIs, NextOf}
 use Rattle.rope.proofs.Rights.{row_drop, row_none}
@@ -181,24 +179,6 @@ entries_few (s ∷ l) gap = go (diff_of s) (entries_few l (gap + active_len s)) 
 pub entries_most : (l : List FugueSpan) → length (entries l) ≤ 2 * length l
 unfolding entries
 entries_most l = entries_few l 0
-
--- ---- by the tests' values
-
-pub lamport_by : (s : FugueSpan) (t : Bool) → eqb s.id.peer UNKNOWN_PEER ≡ t → cond t Nothing (At s.lamport) ≡ lamport_of s
-unfolding lamport_of
-lamport_by s t e = sym (ap (λ (b : Bool). cond b Nothing (At s.lamport)) e)
-
-pub change_by_lem : (s : FugueSpan) (d : DiffStatus) → diff_of s ≡ d → change_by d s ≡ change_of s
-unfolding change_of
-change_by_lem s d e = sym (ap (λ (x : DiffStatus). change_by x s) e)
-
-pub insert_by : (s : FugueSpan) (d : DiffStatus) → diff_of s ≡ d → real_if_created d s.real_id ≡ insertable s
-unfolding insertable
-insert_by s d e = sym (ap (λ (x : DiffStatus). real_if_created x s.real_id) e)
-
-pub step_by_lem : (gap i : ℕ) (e : Entry) (t : Bool) → eqb gap 0 ≡ t → cond t (step e (i + 1) 0) (step (Retain gap) i 0) ≡ step_by gap i e
-unfolding step_by
-step_by_lem gap i e t p = sym (ap (λ (b : Bool). cond b (step e (i + 1) 0) (step (Retain gap) i 0)) p)
 
 -- ---- all that comes in has a real id
 
