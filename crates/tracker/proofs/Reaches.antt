@@ -69,10 +69,7 @@ module _ (k n most len : ℕ) (h : 0 < most) where
 -- a counter that is not below zero
 from_first : (z : ℤ) (s : ℕ) → counter_of z ≡ Some s → z ≡ pos s
 from_first (pos n) s e = cc
-from_first (negsuc n) s e = absurd (some_none e)
-  where
-    some_none : {k : ℕ} → ◌≡◌ {A = Option ℕ} None (Some k) → ⊥
-    some_none ()
+from_first (negsuc n) s e = cc
 
 module _ (c s n most : ℕ) (h : 0 < most) where
   in_pos : (z : ℤ) → counter_of z ≡ Some s → (m : ℕ) → in_counters z n m ≡ leb s m && ltb m (s + n)
@@ -109,10 +106,7 @@ module _ (c n most : ℕ) where
   pub counters_low : (z : ℤ) → counter_of z ≡ None → (u : ℕ) → u ≡ unsigned_abs z → (r : Found) → Same (λ (j : ℕ). ltb (c + u + j) n) most r
       → Same (λ (j : ℕ). in_counters z n (c + j)) most r
   unfolding in_counters
-  counters_low (pos s) e u q r v = absurd (some_none e)
-    where
-      some_none : {k : ℕ} → ◌≡◌ {A = Option ℕ} (Some k) None → ⊥
-      some_none ()
+  counters_low (pos s) e u q r v = absurd (cc)
   counters_low (negsuc a) e u q r v =
       let w : u ≡ suc a = q in
       same_by (λ (j : ℕ). in_counters (negsuc a) n (c + j)) (λ (j : ℕ). ltb (c + u + j) n) most r
