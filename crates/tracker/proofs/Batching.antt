@@ -4,14 +4,12 @@ use mathlib.Core.Path.{◌≡◌, refl, sym, ap, ap₂, subst, ◌∙◌}
 use mathlib.Core.Bool.{Bool, true, false, cond, true≢false}
 use mathlib.Core.List.{List, [], ◌∷◌}
 use native.Mathlib.Omega.{arith}
-use lib.Dec.{eqb}
 use lib.ListN.{length, take, drop, length-drop}
 use lib.Seq.{take_all, drop-drop}
-use borrow.Author.Tests.{eq-eqb, ne_eqb}
 use Rattle.span.specs.Refusal.{code_of}
 use Rattle.store.specs.Header.{room}
 use Rattle.units.specs.Limits.{ROWS}
-use Rattle.units.specs.Codes.{unless, kept}
+use Rattle.units.specs.Codes.{unless}
 use Rattle.history.specs.Edit.{Edit, History}
 use Rattle.history.specs.Arrive.{arrive}
 use Rattle.history.specs.Codes.{on_units, stored, arrive_code}

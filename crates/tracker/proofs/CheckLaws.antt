@@ -4,10 +4,8 @@ use mathlib.Core.Path.{◌≡◌, refl, sym, ap, ap₂, subst, ◌∙◌}
 use mathlib.Core.Bool.{Bool, true, false, ◌&&◌}
 use mathlib.Core.List.{List, [], ◌++◌}
 use native.Mathlib.Omega.{arith}
-use native.Mathlib.Nat.{zero-add}
 use lib.Dec.{leb}
 use lib.ListN.{length, drop, length-append}
-use lib.Seq.{drop-drop}
 use borrow.Author.Tests.{le-leb, lt-leb}
 use Rattle.span.specs.declared.span.FugueSpan.{FugueSpan}
 use Rattle.span.specs.Units.{expand}
@@ -39,35 +37,6 @@ length_targets zero e t = refl
 length_targets (suc h) e t =
     length-append (ranges (took_in e) t) (target_list (held h (drop 256 e) (drop (took_in e * 16) t)))
     ∙ ap₂ ◌+◌ (length-ranges (took_in e) t) (length_targets h (drop 256 e) (drop (took_in e * 16) t))
-
--- the loop that sums them
-pub record Used (h : ℕ) (e : List ℕ) (i sum : ℕ) : Type 0 where
-  pub low : i ≤ h
-  pub small : sum ≤ i * 4294967295
-  pub is : used h e ≡ sum + used (h - i) (drop (i * 256) e)
-
-pub used_start : (h : ℕ) (e : List ℕ) → Used h e 0 0
-used_start h e =
-    let z : h - 0 ≡ h = omega arith in
-    record { low = omega arith; small = omega arith; is = ap (λ (m : ℕ). used m e) (sym z) ∙ sym (zero-add (used (h - 0) e)) }
-
-one_less : (h i : ℕ) → i < h → h - i ≡ suc (h - (i + 1))
-one_less h i l = omega arith
-
-next_row : (i : ℕ) → i * 256 + 256 ≡ (i + 1) * 256
-next_row i = omega arith
-
-module _ (h : ℕ) (e : List ℕ) (i sum : ℕ) (v : Used h e i sum) where
-  pub used_turn : i < h → (k : ℕ) → k ≡ took_in (drop (i * 256) e) → k < 4294967296 → Used h e (i + 1) (sum + k)
-  unfolding used
-  used_turn l k p f =
-      let q : used (h - i) (drop (i * 256) e) ≡ took_in (drop (i * 256) e) + used (h - (i + 1)) (drop ((i + 1) * 256) e) =
-      ap (λ (m : ℕ). used m (drop (i * 256) e)) (one_less h i l) ∙ ap (λ (d : List ℕ). took_in (drop (i * 256) e) + used (h - (i + 1)) d) (drop-drop 256 (i * 256) e ∙ ap (λ (m : ℕ). drop m e) (next_row i)) in
-      record { low = omega arith; small = omega (arith, v.small, f); is = omega (arith, v.is, q, p) }
-
-  pub used_done : h ≤ i → sum ≡ used h e
-  unfolding used
-  used_done l = let z : h - i ≡ 0 = omega arith in let q : used (h - i) (drop (i * 256) e) ≡ 0 = ap (λ (m : ℕ). used m (drop (i * 256) e)) z in omega (arith, v.is, q)
 
 -- ---------------------------------------------------------------- the check, test by test
 

@@ -60,8 +60,8 @@ module _ (h : ℕ) (e t : List ℕ) where
       let y : held_count (from h e t (k + 1)) p ≡ 0 = subst (λ (j : ℕ). held_count (from h e t j) p ≡ 0) (sym n) z in
       omega (arith, f, y)
 
-  pub none_held : (p : ℕ) → held_count (from h e t 0) p ≡ 0 → 0 ≡ held_count (held h e t) p
-  none_held p z = sym (ap (λ (s : List Held). held_count s p) (sym (from_all h e t)) ∙ z)
+  pub none_held : (p i : ℕ) → i ≤ 0 → held_count (from h e t i) p ≡ held_count (held h e t) p
+  none_held p i l = ap (λ (j : ℕ). held_count (from h e t j) p) (let z : i ≡ 0 = omega (arith, l) in z) ∙ ap (λ (s : List Held). held_count s p) (from_all h e t)
 
   natural_bits : (z : ℤ) → z ≡ pos (number z) → bits32 z ≡ number z
   natural_bits z n = ap bits32 n

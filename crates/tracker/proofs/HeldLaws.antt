@@ -6,74 +6,33 @@ use mathlib.Core.List.{List, []}
 use native.Mathlib.Omega.{arith}
 use native.Mathlib.Nat.{zero-add}
 use lib.Dec.{ltb, leb, eqb}
-use lib.IntN.{ℤ, pos, negsuc, ◌+ℤ◌}
-use lib.Signed.{lt_z, le_z}
+use lib.IntN.{ℤ, pos, negsuc}
 use lib.ListN.{length, take, drop, length-drop}
 use lib.Seq.{take_all}
-use borrow.Author.Tests.{le-leb, lt-leb, eq-eqb, ne_eqb, ltb-true, ltb-false, leb-true, leb-false, eqb-true, eqb-false}
+use borrow.Author.Tests.{lt-ltb, le-leb, lt-leb, eq-eqb, ne_eqb, eqb-true, eqb-false}
 use Rattle.std.specs.Prelude.{Result, Ok, Err}
 use Rattle.std.specs.Result.{is_err}
 use Rattle.span.specs.declared.refusal.Refusal.{Refusal}
 use Rattle.span.specs.declared.ids.Id.{Id}
 use Rattle.std.specs.Prelude.{Some as At}
-use Rattle.span.specs.Maybe.{Counter}
-use Rattle.std.specs.Prelude.{Some, None}
 use Rattle.span.specs.Refusal.{code_of}
 use Rattle.span.proofs.RefusalLaws.{number_not_zero}
 use Rattle.span.specs.Ids.{room_opt}
-use Rattle.span.specs.Status.{eq_z, counter_of}
+use Rattle.span.specs.Status.{eq_z}
 use Rattle.store.specs.Limits.{PEERS}
 use Rattle.units.specs.Codes.{unless}
 use Rattle.units.specs.Lists.{every, some}
-use Rattle.history.specs.Edit.{Version, Act, Edit, Held, size, size_of}
-use Rattle.history.specs.Version.{count_of, below, held_count, above, rising, is_held, named, within, whole_act, closed_for, closed, version_code}
+use Rattle.history.specs.Edit.{Version, Edit, Held, size, size_of}
+use Rattle.history.specs.Version.{count_of, held_count, above, rising, is_held, named, within, closed_for, closed}
 use Rattle.history.specs.Valid.{act_formed, act_ids, has_peer, peer_count, own_count, edit_code, edits_fit}
 use Rattle.tracker.specs.declared.row.Head.{Head}
 use Rattle.tracker.specs.Rows.{to_act, to_edit, pairs, pairs_in, context_in, edit_in, broken, held, used}
 use Rattle.tracker.specs.Refused.{from, act_code, context_code}
-use Rattle.tracker.specs.Last.{past, last_for, closed_last}
+use Rattle.tracker.specs.Last.{last_for, closed_last}
 use Rattle.tracker.proofs.Logs.{held_at, held_turn, held_one}
 use Rattle.history.proofs.Sound.{fit_snoc}
 
 -- ---------------------------------------------------------------- numbers
-
-pub leb_sub : (a b n : ℕ) → b ≤ n → leb a (n - b) ≡ leb (a + b) n
-leb_sub a b n h = go (leb a (n - b)) refl
-  where
-    go : (t : Bool) → leb a (n - b) ≡ t → t ≡ leb (a + b) n
-    go true e = sym (le-leb (a + b) n (omega (arith, leb-true a (n - b) e)))
-    go false e = sym (lt-leb (a + b) n (omega (arith, leb-false a (n - b) e)))
-
-pub lt-not : (a b : ℕ) → ltb a b ≡ not (leb b a)
-lt-not a b = go (ltb a b) refl
-  where
-    go : (t : Bool) → ltb a b ≡ t → t ≡ not (leb b a)
-    go true e = ap not (sym (lt-leb b a (ltb-true a b e)))
-    go false e = ap not (sym (le-leb b a (ltb-false a b e)))
-
--- a counter, by its sign, is a number
-abbrev pub is_num : Counter → ℕ → Bool
-is_num (Some c) n = eqb c n
-is_num None n = false
-
-is_of : (z : ℤ) (n : ℕ) → is_num (counter_of z) n ≡ eq_z z (pos n)
-is_of (pos c) n = refl
-is_of (negsuc c) n = refl
-
-pub is_is : (z : ℤ) (n : ℕ) (k : Counter) → counter_of z ≡ k → is_num k n ≡ eq_z z (pos n)
-is_is z n k e = ap (λ (j : Counter). is_num j n) (sym e) ∙ is_of z n
-
--- and a count is at least 1 and at most a number
-abbrev pub held_num : Counter → ℕ → Bool
-held_num (Some c) n = leb 1 c && leb c n
-held_num None n = false
-
-held_num_of : (z : ℤ) (n : ℕ) → held_num (counter_of z) n ≡ le_z (pos 1) z && le_z z (pos n)
-held_num_of (pos c) n = refl
-held_num_of (negsuc c) n = refl
-
-pub held_num_lem : (z : ℤ) (n : ℕ) (k : Counter) → counter_of z ≡ k → held_num k n ≡ le_z (pos 1) z && le_z z (pos n)
-held_num_lem z n k e = ap (λ (j : Counter). held_num j n) (sym e) ∙ held_num_of z n
 
 eqb_sym : (a b : ℕ) → eqb a b ≡ eqb b a
 eqb_sym a b = go (eqb a b) refl
@@ -92,9 +51,6 @@ eq_z_sym n (negsuc c) = refl
 pub rest_is : (s : List ℕ) (b : ℕ) → take (length s - b) (drop b s) ≡ drop b s
 rest_is s b = take_all (length s - b) (drop b s) (rw length-drop (omega arith))
 
-pub rest_long : (s : List ℕ) (b : ℕ) → length (take (length s - b) (drop b s)) ≡ length s - b
-rest_long s b = ap length (rest_is s b) ∙ length-drop b s
-
 module _ (row : List ℕ) (k : ℕ) (e : k ≡ pairs_in row) where
   pub context_is : k ≤ PEERS → pairs k (take (length row - 64) (drop 64 row)) ≡ context_in row
   unfolding context_in
@@ -111,26 +67,12 @@ pub broken-within : (v : Version) → true ≡ within broken v
 unfolding within every
 broken-within v = ap (λ (b : Bool). b && true) (sym (le-leb 0 (count_of v 0) (omega arith)))
 
+pub wide_within : (row : List ℕ) (k : ℕ) (v : Version) → k ≡ pairs_in row → PEERS < k → ltb PEERS k ≡ within (context_in row) v
+wide_within row k v e h = lt-ltb PEERS k h ∙ broken-within v ∙ ap (λ (x : Version). within x v) (context_broken row k e h)
+
 pub broken_code : (l : List Held) (i : Id) → 6 ≡ context_code l broken i
 unfolding context_code named rising above every is_held
 broken_code l i = refl
-
-pub own_by : (x : Edit) (p r : ℕ) (q : Bool) → r ≡ x.id.peer → eqb r p ≡ q → cond q (size x) 0 ≡ cond (eqb x.id.peer p) (size x) 0
-own_by x p r q e t = ap (λ (b : Bool). cond b (size x) 0) (sym t ∙ ap (λ (n : ℕ). eqb n p) e)
-
-pub act_by : (i : Id) (a : Act) (f g j : Bool) → act_formed a ≡ f → room_opt (At i) (size_of a) ≡ g → act_ids a ≡ j → unless f 1 (unless (g && j) 2 0) ≡ act_code i a
-unfolding act_code
-act_by i a f g j p q r = rw (p, q, r)
-
-module _ (v : Version) (hd : Head) (context : Version) (x : Edit) (e : to_edit hd context ≡ x) where
-  pub closed_by : (b w a : Bool) → below v hd.id ≡ b → within context v ≡ w → whole_act (to_act hd.act) v hd.id ≡ a → (not b || (w && a)) ≡ closed_for v x
-  unfolding closed_for
-  closed_by b w a p q r = rw (sym p, sym q, sym r) (ap (closed_for v) e)
-
-module _ (v : Version) (hd : Head) (context : Version) (x : Edit) (e : to_edit hd context ≡ x) where
-  pub last_by : (b a : Bool) → lt_z (hd.id.counter +ℤ pos (size_of (to_act hd.act))) (pos (count_of v hd.id.peer)) ≡ b → closed_for v x ≡ a → (b || a) ≡ last_for v x
-  unfolding last_for past
-  last_by b a p q = rw (sym p, sym q) (ap (λ (y : Edit). past v y || closed_for v x) e)
 
 -- ---------------------------------------------------------------- from edit i on
 
@@ -145,10 +87,6 @@ from_none h e t i l = ap (λ (n : ℕ). held n (drop (i * 256) e) (drop (used i 
 pub fit_start : (h : ℕ) (e t : List ℕ) → edits_fit [] (held h e t) ≡ edits_fit (held 0 e t) (from h e t 0)
 unfolding held
 fit_start h e t = ap (edits_fit []) (sym (from_all h e t))
-
--- the edits as a slice has them
-pub from_part : (h : ℕ) (e t : List ℕ) (i : ℕ) → held (h - i) (take (length e - i * 256) (drop (i * 256) e)) (drop (used i e * 16) t) ≡ from h e t i
-from_part h e t i = ap (λ (s : List ℕ). held (h - i) s (drop (used i e * 16) t)) (rest_is e (i * 256))
 
 abbrev edit_at : List ℕ → ℕ → Edit
 edit_at e i = edit_in (drop (i * 256) e)
@@ -183,23 +121,27 @@ module _ (h : ℕ) (e t : List ℕ) (i : ℕ) where
         go true r = sym (zero-add r)
         go false r = let k : suc r ≡ 1 + r = omega arith in k
 
-    pub closed_turn : (v : Version) (q : Bool) → closed_for v (edit_at e i) ≡ q → closed (from h e t i) v ≡ q && closed (from h e t (i + 1)) v
+    pub closed_turn : (v : Version) → closed (from h e t i) v ≡ closed_for v (edit_in (take (length e - i * 256) (drop (i * 256) e))) && closed (from h e t (i + 1)) v
     unfolding closed every
-    closed_turn v q k =
+    closed_turn v =
         ap (λ (s : List Held). closed s v) (held_turn h i e t l)
-        ∙ ap (λ (b : Bool). b && closed (from h e t (i + 1)) v) k
+        ∙ ap (λ (b : Bool). b && closed (from h e t (i + 1)) v) (ap (λ (s : List ℕ). closed_for v (edit_in s)) (sym (rest_is e (i * 256))))
 
-    pub last_turn : (v : Version) (q : Bool) → last_for v (edit_at e i) ≡ q → closed_last (from h e t i) v ≡ q && closed_last (from h e t (i + 1)) v
+    pub last_turn : (v : Version) → closed_last (from h e t i) v ≡ last_for v (edit_in (take (length e - i * 256) (drop (i * 256) e))) && closed_last (from h e t (i + 1)) v
     unfolding closed_last every
-    last_turn v q k =
+    last_turn v =
         ap (λ (s : List Held). closed_last s v) (held_turn h i e t l)
-        ∙ ap (λ (b : Bool). b && closed_last (from h e t (i + 1)) v) k
+        ∙ ap (λ (b : Bool). b && closed_last (from h e t (i + 1)) v) (ap (λ (s : List ℕ). last_for v (edit_in s)) (sym (rest_is e (i * 256))))
 
     pub fit_turn : (q : Bool) → eqb (edit_code (held i e t) (edit_at e i)) 0 ≡ q → edits_fit (held i e t) (from h e t i) ≡ q && edits_fit (held (i + 1) e t) (from h e t (i + 1))
     unfolding edits_fit
     fit_turn q k =
         ap (edits_fit (held i e t)) (held_turn h i e t l)
         ∙ ap₂ (λ (b : Bool) (s : List Held). b && edits_fit s (from h e t (i + 1))) k (sym (held_one i e t))
+
+    -- the same of the row as a slice has it
+    pub fit_step : edits_fit (held i e t) (from h e t i) ≡ eqb (edit_code (held i e t) (edit_in (take (length e - i * 256) (drop (i * 256) e)))) 0 && edits_fit (held (i + 1) e t) (from h e t (i + 1))
+    fit_step = fit_turn _ (ap (λ (s : List ℕ). eqb (edit_code (held i e t) (edit_in s)) 0) (sym (rest_is e (i * 256))))
 
   module _ (l : h ≤ i) where
     pub count_done : (p : ℕ) → held_count (from h e t i) p ≡ 0
@@ -226,20 +168,15 @@ module _ (h : ℕ) (e t : List ℕ) (i : ℕ) where
     unfolding edits_fit
     fit_done = ap (edits_fit (held i e t)) (from_none h e t i l)
 
--- an edit is the last of its peer once at most
-pub one_at_most : (l : List Held) (p r : ℕ) → r ≡ cond (has_peer l p) 0 1 → r ≤ 1
-one_at_most l p r e = go (has_peer l p) e
-  where
-    go : (b : Bool) → r ≡ cond b 0 1 → r ≤ 1
-    go true e = omega (arith, e)
-    go false e = omega (arith, e)
-
 pub fit_none : (e t : List ℕ) → edits_fit [] (held 0 e t) ≡ true
 unfolding held edits_fit
 fit_none e t = refl
 
 pub fit_more : (e t : List ℕ) (i : ℕ) → edits_fit [] (held i e t) ≡ true → edit_code (held i e t) (edit_at e i) ≡ 0 → edits_fit [] (held (i + 1) e t) ≡ true
 fit_more e t i p q = ap (edits_fit []) (held_one i e t) ∙ fit_snoc [] (held i e t) (held_at i e t) p q
+
+pub fit_next : (e t : List ℕ) (i : ℕ) → edits_fit [] (held i e t) ≡ true → edit_code (held i e t) (edit_in (take (length e - i * 256) (drop (i * 256) e))) ≡ 0 → edits_fit [] (held (i + 1) e t) ≡ true
+fit_next e t i p q = fit_more e t i p (ap (λ (s : List ℕ). edit_code (held i e t) (edit_in s)) (sym (rest_is e (i * 256))) ∙ q)
 
 -- ---------------------------------------------------------------- the numbers of refusals
 
@@ -251,25 +188,6 @@ code_of-err (Err e) h = number_not_zero e
 pub code_of-ok : (r : Result (Unit {0}) Refusal) → is_err r ≡ false → code_of r ≡ 0
 code_of-ok (Ok x) h = refl
 code_of-ok (Err e) h = absurd (true≢false h)
-
-pub named_by : (l : List Held) (v : Version) (r c : Bool) → rising v ≡ r → every (is_held l) v ≡ c → r && c ≡ named l v
-unfolding named
-named_by l v r c p q = rw (p, q)
-
-pub version_by : (l : List Held) (v : Version) (n c : Bool) → named l v ≡ n → closed l v ≡ c → unless n 6 (unless c 7 0) ≡ version_code l v
-unfolding version_code
-version_by l v n c p q = rw (p, q)
-
-pub context_by : (l : List Held) (v : Version) (i : Id) (n c o : Bool) → named l v ≡ n → closed l v ≡ c → eq_z i.counter (pos (count_of v i.peer)) ≡ o →
-    unless n 6 (unless (o && c) 7 0) ≡ context_code l v i
-unfolding context_code
-context_by l v i n c o p q r = rw (p, q, eq_z_sym (count_of v i.peer) i.counter, r) (ap (λ (b : Bool). unless n 6 (unless b 7 0)) (both o c))
-  where
-    both : (a b : Bool) → a && b ≡ b && a
-    both true true = refl
-    both true false = refl
-    both false true = refl
-    both false false = refl
 
 module _ (l : List Held) (hd : Head) (context : Version) (x : Edit) (e : to_edit hd context ≡ x) where
   pub edit_by : (k : ℕ) (f g : Bool) → act_code hd.id (to_act hd.act) ≡ k → (has_peer l hd.id.peer || not (leb PEERS (peer_count l))) ≡ f →
@@ -287,3 +205,19 @@ module _ (l : List Held) (hd : Head) (context : Version) (x : Edit) (e : to_edit
   edit_alone k p n =
       ap (λ (b : Bool). cond b (unless (has_peer l hd.id.peer || not (leb PEERS (peer_count l))) 4 (unless (eq_z hd.id.counter (pos (held_count l hd.id.peer))) 5 (context_code l context hd.id))) k) (sym (ne_eqb k 0 n))
       ∙ edit_by k _ _ (sym p) refl refl
+
+-- ---------------------------------------------------------------- what each loop over the edits cites
+
+pub ruleset counts = (from_all, count_turn, count_done)
+
+pub ruleset holders = (from_all, peer_turn, peer_done)
+
+pub ruleset peers = (from_all, peers_turn, peers_done)
+
+pub ruleset closes = (from_all, closed_turn, closed_done)
+
+pub ruleset lasts = (from_all, last_turn, last_done)
+
+pub ruleset fits = (fit_start, fit_none, fit_step, fit_next, fit_done, code_of-err, code_of-ok)
+
+pub ruleset contexts = (context_is, context_broken, broken_code)

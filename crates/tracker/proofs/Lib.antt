@@ -4,7 +4,6 @@ pub mod Logs
 pub mod Leaving
 pub mod Checking
 pub mod Shorts
-pub mod Copies
 pub mod Appends
 pub mod Bares
 pub mod Cuts

@@ -14,6 +14,7 @@ use span::refusal::Refusal;
 use span::status::counter_of;
 
 // The counters that an edit uses.
+#[tactic(auto, unfolding(history::specs::Edit::size_of))]
 pub fn size_of(act: Does) -> u32
     ensures { result ≡ size_of (to_act act) }
 {

@@ -24,6 +24,7 @@ use words::bytes_at;
 // ---------------------------------------------------------------- counts
 
 // The peer of edit i.
+#[tactic(auto, unfolding(crate::specs::Rows::edit_in))]
 fn peer_at(e: &[u8], i: usize) -> u64
     requires { i * 256 + 256 ≤ length e.now }
     ensures { result ≡ (edit_in (drop (i * 256) e.now)).id.peer }
@@ -51,6 +52,7 @@ fn own_size(e: &[u8], i: usize, peer: u64) -> u32
 }
 
 // The count held for a peer.
+#[tactic(auto, using(crate::proofs::HeldLaws::counts))]
 pub fn held_count(e: &[u8], h: usize, peer: u64) -> u64
     requires { (h * 256 ≤ length e.now) × (h ≤ EDITS) }
     ensures { (t : List ℕ) → result ≡ held_count (held h e.now t) peer }
@@ -72,6 +74,7 @@ fn end_at(e: &[u8], i: usize) -> u64
 }
 
 // The count held for a peer where the edits fit: its last edit ends there. It is looked for from the end.
+#[tactic(auto, using(crate::proofs::HeldLaws::count_done, crate::proofs::Ends::passed))]
 fn last_count(e: &[u8], h: usize, peer: u64) -> u64
     requires { (h * 256 ≤ length e.now) × ((t : List ℕ) → edits_fit [] (held h e.now t) ≡ true) }
     ensures { (t : List ℕ) → result ≡ held_count (held h e.now t) peer }
@@ -97,6 +100,7 @@ fn count_for(e: &[u8], h: usize, peer: u64, fit: bool) -> u64
 }
 
 // Whether a peer has edits.
+#[tactic(auto, using(crate::proofs::HeldLaws::holders))]
 pub fn has_peer(e: &[u8], h: usize, peer: u64) -> bool
     requires { (h * 256 ≤ length e.now) × (h ≤ EDITS) }
     ensures { (t : List ℕ) → result ≡ has_peer (held h e.now t) peer }
@@ -112,7 +116,8 @@ pub fn has_peer(e: &[u8], h: usize, peer: u64) -> bool
 // 1 if no edit after edit i has its peer, and else 0.
 fn last_of_peer(e: &[u8], h: usize, i: usize) -> usize
     requires { (h * 256 ≤ length e.now) × (h ≤ EDITS) × (i < h) }
-    ensures { (t : List ℕ) → result ≡ (if has_peer (from h e.now t (i + 1)) (edit_in (drop (i * 256) e.now)).id.peer then 0 else 1) }
+    ensures one { result ≤ 1 }
+    ensures last { (t : List ℕ) → result ≡ (if has_peer (from h e.now t (i + 1)) (edit_in (drop (i * 256) e.now)).id.peer then 0 else 1) }
 {
     let next = i + 1;
     let peer = peer_at(e, i);
@@ -120,6 +125,7 @@ fn last_of_peer(e: &[u8], h: usize, i: usize) -> usize
 }
 
 // How many peers have edits.
+#[tactic(auto, using(crate::proofs::HeldLaws::peers))]
 pub fn peer_count(e: &[u8], h: usize) -> usize
     requires { (h * 256 ≤ length e.now) × (h ≤ EDITS) }
     ensures { (t : List ℕ) → result ≡ peer_count (held h e.now t) }
@@ -149,6 +155,7 @@ fn pair_held(e: &[u8], h: usize, k: Pair, fit: bool) -> bool
     count_held(k, count_for(e, h, k.peer, fit))
 }
 
+#[tactic(auto, using(crate::proofs::VersionLaws::each))]
 fn pairs_held(e: &[u8], h: usize, v: &[u8], m: usize, fit: bool) -> bool
     requires { (h * 256 ≤ length e.now) × (h ≤ EDITS) × (m * 12 ≤ length v.now) × (fit ≡ true → (t : List ℕ) → edits_fit [] (held h e.now t) ≡ true) }
     ensures { (t : List ℕ) → result ≡ every (is_held (held h e.now t)) (pairs m v.now) }
@@ -189,6 +196,7 @@ fn covers_act(v: &[u8], m: usize, act: Does, id: Id) -> bool
 }
 
 // Whether a version covers the context of a row. More pairs than there is room for say nothing.
+#[tactic(auto, using(crate::proofs::HeldLaws::context_is))]
 fn covers_context(row: &[u8], v: &[u8], m: usize) -> bool
     requires { (256 ≤ length row.now) × (m * 12 ≤ length v.now) }
     ensures { result ≡ within (context_in row.now) (pairs m v.now) }
@@ -208,6 +216,7 @@ fn closed_row(row: &[u8], v: &[u8], m: usize) -> bool
 }
 
 // 7: every edit that a version covers has its context covered too, and no delete is covered in part.
+#[tactic(auto, using(crate::proofs::HeldLaws::closes))]
 pub fn closed(e: &[u8], h: usize, v: &[u8], m: usize) -> bool
     requires { (h * 256 ≤ length e.now) × (h ≤ EDITS) × (m * 12 ≤ length v.now) }
     ensures { (t : List ℕ) → result ≡ closed (held h e.now t) (pairs m v.now) }
@@ -221,6 +230,7 @@ pub fn closed(e: &[u8], h: usize, v: &[u8], m: usize) -> bool
 }
 
 // The same where a version covers more of the peer after the edit: then what the peer did next decides.
+#[tactic(auto, unfolding(crate::specs::Last::last_for, crate::specs::Last::past))]
 fn last_row(row: &[u8], v: &[u8], m: usize) -> bool
     requires { (256 ≤ length row.now) × (m * 12 ≤ length v.now) }
     ensures { result ≡ last_for (pairs m v.now) (edit_in row.now) }
@@ -230,6 +240,7 @@ fn last_row(row: &[u8], v: &[u8], m: usize) -> bool
     less_than(end, count_of(v, m, x.id.peer)) || closed_row(row, v, m)
 }
 
+#[tactic(auto, using(crate::proofs::HeldLaws::lasts))]
 fn closed_last(e: &[u8], h: usize, v: &[u8], m: usize) -> bool
     requires { (h * 256 ≤ length e.now) × (h ≤ EDITS) × (m * 12 ≤ length v.now) }
     ensures { (t : List ℕ) → result ≡ closed_last (held h e.now t) (pairs m v.now) }
@@ -243,6 +254,7 @@ fn closed_last(e: &[u8], h: usize, v: &[u8], m: usize) -> bool
 }
 
 // 7 of a version that is named. Where the edits are known to fit, few contexts are read.
+#[tactic(auto, using(crate::proofs::LastLaws::closed_last_lem))]
 fn named_closed(e: &[u8], h: usize, v: &[u8], m: usize, fit: bool) -> bool
     requires { (h * 256 ≤ length e.now) × (h ≤ EDITS) × (m * 12 ≤ length v.now) × ((t : List ℕ) → named (held h e.now t) (pairs m v.now) ≡ true) × (fit ≡ true → (t : List ℕ) → edits_fit [] (held h e.now t) ≡ true) }
     ensures { (t : List ℕ) → result ≡ closed (held h e.now t) (pairs m v.now) }
@@ -287,6 +299,7 @@ fn pairs_code(e: &[u8], h: usize, v: &[u8], m: usize, id: Id, fit: bool) -> Resu
     Ok(())
 }
 
+#[tactic(auto, using(crate::proofs::HeldLaws::contexts))]
 fn context_code(e: &[u8], h: usize, row: &[u8], id: Id, fit: bool) -> Result<(), Refusal>
     requires { (h * 256 ≤ length e.now) × (h ≤ EDITS) × (256 ≤ length row.now) × (fit ≡ true → (t : List ℕ) → edits_fit [] (held h e.now t) ≡ true) }
     ensures { (t : List ℕ) → code_of result ≡ context_code (held h e.now t) (context_in row.now) id }
@@ -299,6 +312,7 @@ fn context_code(e: &[u8], h: usize, row: &[u8], id: Id, fit: bool) -> Result<(),
 }
 
 // 1, 2, 4, 5, 6 or 7: what the edits held say of the edit in a row. It is quicker if they are known to fit.
+#[tactic(auto, using(crate::proofs::HeldLaws::eq_z_sym), unfolding(history::specs::Valid::edit_code, history::specs::Valid::own_count, crate::specs::Refused::act_code, crate::specs::Refused::context_code))]
 fn row_code(e: &[u8], h: usize, row: &[u8], fit: bool) -> Result<(), Refusal>
     requires { (h * 256 ≤ length e.now) × (h ≤ EDITS) × (256 ≤ length row.now) × (fit ≡ true → (t : List ℕ) → edits_fit [] (held h e.now t) ≡ true) }
     ensures { (t : List ℕ) → code_of result ≡ edit_code (held h e.now t) (edit_in row.now) }
@@ -331,6 +345,7 @@ pub fn fit_code(e: &[u8], h: usize, row: &[u8]) -> Result<(), Refusal>
 }
 
 // Whether no edit is refused by those before it.
+#[tactic(auto, using(crate::proofs::HeldLaws::fits))]
 pub fn edits_fit(e: &[u8], h: usize) -> bool
     requires { (h * 256 ≤ length e.now) × (h ≤ EDITS) }
     ensures { (t : List ℕ) → result ≡ edits_fit [] (held h e.now t) }

@@ -16,6 +16,7 @@ pub fn number_of(k: Pair) -> u32
 }
 
 // A peer's count in a version.
+#[tactic(auto, using(crate::proofs::VersionLaws::counts))]
 pub fn count_of(v: &[u8], m: usize, peer: u64) -> u32
     requires { m * 12 ≤ length v.now }
     ensures { result ≡ count_of (pairs m v.now) peer }
@@ -55,6 +56,7 @@ pub fn in_version(v: &[u8], m: usize, id: Id) -> bool
 }
 
 // Whether the peers rise strictly.
+#[tactic(auto, using(crate::proofs::VersionLaws::rises))]
 pub fn rising(v: &[u8], m: usize) -> bool
     requires { m * 12 ≤ length v.now }
     ensures { result ≡ rising (pairs m v.now) }
@@ -76,6 +78,7 @@ fn covers_pair(v: &[u8], m: usize, k: Pair) -> bool
 }
 
 // Whether the version v covers the version c.
+#[tactic(auto, using(crate::proofs::VersionLaws::covers))]
 pub fn within(c: &[u8], k: usize, v: &[u8], m: usize) -> bool
     requires { (k * 12 ≤ length c.now) × (m * 12 ≤ length v.now) }
     ensures { result ≡ within (pairs k c.now) (pairs m v.now) }
