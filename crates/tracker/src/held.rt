@@ -24,7 +24,6 @@ use words::bytes_at;
 // ---------------------------------------------------------------- counts
 
 // The peer of edit i.
-#[tactic(auto, unfolding(crate::specs::Rows::edit_in))]
 fn peer_at(e: &[u8], i: usize) -> u64
     requires { i * 256 + 256 ≤ length e.now }
     ensures { result ≡ (edit_in (drop (i * 256) e.now)).id.peer }

@@ -41,7 +41,6 @@ pub struct Head {
     pub act: Does,
 }
 
-#[tactic(auto, using(crate::proofs::Parts::pair_at))]
 pub fn get_pair(v: &[u8], i: usize) -> Pair
     requires { i * 12 + 12 ≤ length v.now }
     ensures { to_count result ≡ pair_in (drop (i * 12) v.now) }
@@ -61,7 +60,6 @@ pub fn put_pair(v: &mut [u8], i: usize, k: Pair)
     words::put(v, at + 8, k.many.to_le_bytes());
 }
 
-#[tactic(auto, using(crate::proofs::Parts::range_at))]
 pub fn get_target(t: &[u8], i: usize) -> Target
     requires { i * 16 + 16 ≤ length t.now }
     ensures { to_range result ≡ range_in (drop (i * 16) t.now) }
@@ -111,7 +109,6 @@ fn does_of(kind: u32, lamport: u32, first: u32, last: u32, target: Id) -> Does
 }
 
 // The edit in a row, which stands at the front of e.
-#[tactic(auto, unfolding(crate::specs::Rows::edit_in, crate::specs::Rows::act_in))]
 pub fn get_head(e: &[u8]) -> Head
     requires { 64 ≤ length e.now }
     ensures { to_edit result (context_in e.now) ≡ edit_in e.now }
