@@ -67,6 +67,9 @@ unfolding decimal_of
 decimal_empty most [] h = refl
 decimal_empty most (b ∷ s) h = absurd (omega arith)
 
+-- what the loop over the digits meets
+pub ruleset digits = (up_to_end, up_to_other, up_to_digit, up_to_over, up_to_past, decimal_not_empty, decimal_empty)
+
 -- a number that is read is not past most
 pub decimal_most : (most v : ℕ) (s : List ℕ) → decimal_of most s ≡ Some v → v ≤ most
 unfolding decimal_of up_to

@@ -156,3 +156,6 @@ module _ (at : ℕ) (w s : List ℕ) where
 
       inner : take (length s - at) (take (length s - at) w) ++ drop (length s - at) (take (length s - at) (drop at s)) ≡ take (length s - at) w
       inner = rw (take-take (length s - at) (length s - at) w le, drop_of_length-le (take (length s - at) (drop at s)) {i = length s - at} short, append-nil)
+
+-- one put, as it is made
+pub ruleset copies = (placed_past, placed_fits, written_past, part_fits, part_cut)

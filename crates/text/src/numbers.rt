@@ -3,6 +3,7 @@ ghost use Rattle.std.specs.Prelude.{◌≡◌};
 ghost use Rattle.text.specs.Numbers.{decimal_of, int_of};
 
 // The number that the text says, where it is not past most.
+#[tactic(auto, using(crate::proofs::NumbersLaws::digits), unfolding(crate::specs::Numbers::is_digit))]
 pub fn decimal(s: &[u8], most: u64) -> Option<u64>
     ensures { result ≡ decimal_of most s.now }
 {
@@ -21,6 +22,7 @@ pub fn decimal(s: &[u8], most: u64) -> Option<u64>
 }
 
 // The number from -(most + 1) to most that the text says.
+#[tactic(auto, using(crate::proofs::NumbersLaws::decimal_most, crate::proofs::NumbersLaws::wide_fits, crate::proofs::NumbersLaws::minus_fits))]
 pub fn signed(s: &[u8], most: u32) -> Option<i64>
     ensures { result ≡ int_of most s.now }
 {

@@ -12,6 +12,7 @@ pub fn find(s: &[u8], b: u8) -> Option<usize>
 }
 
 // What stands before the first b: all of it, where there is none.
+#[tactic(auto, using(crate::proofs::PartsLaws::found_in, crate::proofs::PartsLaws::found_none))]
 pub fn before(s: &[u8], b: u8) -> &[u8]
     ensures { result.now ≡ spec.before b s.now }
 {
@@ -32,6 +33,7 @@ pub fn after(s: &[u8], b: u8) -> &[u8]
 }
 
 // All from part i on, of the parts between b's counted from 0: nothing, where there are not so many.
+#[tactic(auto, using(crate::proofs::PartsLaws::rest_next, crate::proofs::PartsLaws::rest_here))]
 pub fn rest(s: &[u8], b: u8, i: usize) -> &[u8]
     ensures { result.now ≡ spec.rest b i s.now }
 {
@@ -50,6 +52,7 @@ pub fn part(s: &[u8], b: u8, i: usize) -> &[u8]
 }
 
 // How many parts there are: one more than b's.
+#[tactic(auto, using(crate::proofs::PartsLaws::parts_counted))]
 pub fn parts(s: &[u8], b: u8) -> usize
     ensures { result ≡ spec.parts b s.now }
 {
@@ -57,6 +60,7 @@ pub fn parts(s: &[u8], b: u8) -> usize
 }
 
 // s without the b's at its start.
+#[tactic(auto, using(crate::proofs::PartsLaws::front_other, crate::proofs::PartsLaws::front_end))]
 fn without_front(s: &[u8], b: u8) -> &[u8]
     ensures { result.now ≡ front b s.now }
 {
@@ -71,6 +75,7 @@ fn without_front(s: &[u8], b: u8) -> &[u8]
 }
 
 // s without the b's at its end.
+#[tactic(auto, using(crate::proofs::PartsLaws::kept_end, crate::proofs::PartsLaws::last_other))]
 fn without_back(s: &[u8], b: u8) -> &[u8]
     ensures { result.now ≡ take (kept b s.now (length s.now)) s.now }
 {

@@ -4,6 +4,7 @@ ghost use Rattle.io.specs.Digits.{last_digits};
 ghost use Rattle.text.specs.Numbers.{numeral, int_text};
 ghost use Rattle.text.specs.Puts.{Puts};
 
+#[tactic(auto, using(crate::proofs::PutsLaws::copies))]
 pub fn put(out: &mut [u8], at: usize, w: &[u8]) -> usize
     ensures { Puts at w.now out.old result out.new }
 {
@@ -22,6 +23,7 @@ pub fn put(out: &mut [u8], at: usize, w: &[u8]) -> usize
 }
 
 // The number's digits, with no zero in front.
+#[tactic(auto, using(crate::proofs::NumeralLaws::fewest_numeral))]
 pub fn put_decimal(out: &mut [u8], at: usize, n: u64) -> usize
     ensures { Puts at (numeral n) out.old result out.new }
 {
@@ -31,6 +33,7 @@ pub fn put_decimal(out: &mut [u8], at: usize, n: u64) -> usize
 }
 
 // The number's digits, with a minus sign where it is below zero.
+#[tactic(auto, using(crate::proofs::PutsLaws::puts, crate::proofs::IntLaws::int_below, crate::proofs::IntLaws::int_above))]
 pub fn put_signed(out: &mut [u8], at: usize, n: i32) -> usize
     ensures { Puts at (int_text n) out.old result out.new }
 {
