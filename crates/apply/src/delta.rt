@@ -35,12 +35,12 @@ fn lower(x: Result<(), Refusal>, y: Result<(), Refusal>) -> Result<(), Refusal>
 
 // What refuses an old unit itself.
 #[tactic(auto, unfolding(crate::specs::Given::item_code, crate::specs::Apply::item_formed, crate::specs::Apply::item_ids, crate::specs::Apply::item_single, span::specs::Chunk::chunk_code))]
-fn check_item(x: Item) -> Result<(), Refusal>
-    ensures { code_of result ≡ item_code x }
+fn check_item(item: Item) -> Result<(), Refusal>
+    ensures { code_of result ≡ item_code item }
 {
-    x.content.check()?;
-    let len = x.content.len();
-    if !x.id.has_room(len) {
+    item.content.check()?;
+    let len = item.content.len();
+    if !item.id.has_room(len) {
         Err(Refusal::Id)
     } else if len != 1 {
         Err(Refusal::Mismatch)
@@ -80,11 +80,11 @@ fn used_fits(columns: Columns<'_>, have: usize) -> bool
 {
     let mut left = have;
     for i in 0..columns.len {
-        let t = takes(columns.get(i));
-        if left < t {
+        let uses = takes(columns.get(i));
+        if left < uses {
             return false;
         }
-        left -= t;
+        left -= uses;
     }
     true
 }
@@ -98,13 +98,13 @@ fn new_fits(columns: Columns<'_>, have: usize, room: usize) -> bool
     let mut left = have;
     let mut free = room;
     for i in 0..columns.len {
-        let g = columns.get(i);
-        let m = gives(g);
-        if free < m {
+        let entry = columns.get(i);
+        let comes = gives(entry);
+        if free < comes {
             return false;
         }
-        free -= m;
-        left -= takes(g);
+        free -= comes;
+        left -= takes(entry);
     }
     left <= free
 }
@@ -143,15 +143,15 @@ fn bare(id: Id, content: RichtextChunk) -> FugueSpan
     }
 }
 
-// What an entry gives, from row k of the output on; `at` old units are used up. All refusals were decided before the first write.
+// What an entry gives, from a row of the output on; the old units before the row `from` are used up. All refusals were decided before the first write.
 #[tactic(auto, using(crate::proofs::Written::written), unfolding(crate::specs::Given::takes, crate::specs::Given::gives, crate::specs::Given::made))]
-fn put_given(g: Option<Entry>, old: &[u8], at: usize, out: &mut [u8], k: usize)
-    requires { (given_code g ≡ 0) × (((at + takes g) * 24 ≤ length old.now) × ((k + gives g) * 24 ≤ length out.old)) }
-    ensures { out.new ≡ put (k * 24) (items_bytes (made g (drop at (items_in old.now)))) out.old }
+fn put_given(entry: Option<Entry>, old: &[u8], from: usize, out: &mut [u8], row: usize)
+    requires { (given_code entry ≡ 0) × (((from + takes entry) * 24 ≤ length old.now) × ((row + gives entry) * 24 ≤ length out.old)) }
+    ensures { out.new ≡ put (row * 24) (items_bytes (made entry (drop from (items_in old.now)))) out.old }
 {
-    match g {
-        Some(Entry::Retain(n)) => copy_items(old, at, out, k, n as usize),
-        Some(Entry::Insert(content, id, _)) => put_units(out, k, bare(id, content)),
+    match entry {
+        Some(Entry::Retain(len)) => copy_items(old, from, out, row, len as usize),
+        Some(Entry::Insert(content, id, _)) => put_units(out, row, bare(id, content)),
         Some(Entry::Delete(_)) | None => {}
     }
 }
@@ -163,17 +163,17 @@ fn write_items(columns: Columns<'_>, old: &[u8], out: &mut [u8]) -> usize
     ensures count { result ≡ length (applied (said columns.entry) (items_in old.now)) }
     ensures written { out.new ≡ put 0 (items_bytes (applied (said columns.entry) (items_in old.now))) out.old }
 {
-    let mut at = 0;
-    let mut k = 0;
+    let mut from = 0;
+    let mut row = 0;
     for i in 0..columns.len {
-        let g = columns.get(i);
-        put_given(g, old, at, out, k);
-        at += takes(g);
-        k += gives(g);
+        let entry = columns.get(i);
+        put_given(entry, old, from, out, row);
+        from += takes(entry);
+        row += gives(entry);
     }
-    let rest = old.len() / 24 - at;
-    copy_items(old, at, out, k, rest);
-    k + rest
+    let rest = old.len() / 24 - from;
+    copy_items(old, from, out, row, rest);
+    row + rest
 }
 
 // A delta, its entries in the columns (as many as the shortest has), applied to the items in `old`: the new list is written to the output's front.

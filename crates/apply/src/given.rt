@@ -13,27 +13,27 @@ use units::diff::Entry;
 
 // ---- What the numbers say
 
-fn insert_given(w: EntryNumbers, lamport: Option<u32>) -> Option<Entry>
-    ensures { result ≡ insert_given w lamport }
+fn insert_given(numbers: EntryNumbers, lamport: Option<u32>) -> Option<Entry>
+    ensures { result ≡ insert_given numbers lamport }
 {
     let content = RichtextChunk {
-        start: w.a,
-        end: w.b,
+        start: numbers.a,
+        end: numbers.b,
     };
-    let id = store::id_of(w.peer, w.counter);
+    let id = store::id_of(numbers.peer, numbers.counter);
     Some(Entry::Insert(content, id, lamport))
 }
 
 // The entry, or none where no kind has this number.
 #[tactic(auto, unfolding(crate::specs::Given::given_of))]
-pub fn given_of(w: EntryNumbers) -> Option<Entry>
-    ensures { result ≡ given_of w }
+pub fn given_of(numbers: EntryNumbers) -> Option<Entry>
+    ensures { result ≡ given_of numbers }
 {
-    match w.kind {
-        0 => Some(Entry::Retain(w.a)),
-        1 => Some(Entry::Delete(w.a)),
-        2 => insert_given(w, Some(w.lamport)),
-        3 => insert_given(w, None),
+    match numbers.kind {
+        0 => Some(Entry::Retain(numbers.a)),
+        1 => Some(Entry::Delete(numbers.a)),
+        2 => insert_given(numbers, Some(numbers.lamport)),
+        3 => insert_given(numbers, None),
         _ => None,
     }
 }
@@ -66,22 +66,22 @@ pub fn given_at(
 
 // How many old units an entry uses.
 #[tactic(auto, unfolding(crate::specs::Given::takes))]
-pub fn takes(g: Option<Entry>) -> usize
-    ensures { (result ≡ takes g) × (result < 4294967296) }
+pub fn takes(entry: Option<Entry>) -> usize
+    ensures { (result ≡ takes entry) × (result < 4294967296) }
 {
-    match g {
-        Some(Entry::Retain(n) | Entry::Delete(n)) => n as usize,
+    match entry {
+        Some(Entry::Retain(len) | Entry::Delete(len)) => len as usize,
         Some(Entry::Insert(_, _, _)) | None => 0,
     }
 }
 
 // How many new units it gives.
 #[tactic(auto, unfolding(crate::specs::Given::gives))]
-pub fn gives(g: Option<Entry>) -> usize
-    ensures { (result ≡ gives g) × (result < 4294967296) }
+pub fn gives(entry: Option<Entry>) -> usize
+    ensures { (result ≡ gives entry) × (result < 4294967296) }
 {
-    match g {
-        Some(Entry::Retain(n)) => n as usize,
+    match entry {
+        Some(Entry::Retain(len)) => len as usize,
         Some(Entry::Insert(content, _, _)) => content.len() as usize,
         Some(Entry::Delete(_)) | None => 0,
     }
@@ -109,10 +109,10 @@ fn check_insert(content: RichtextChunk, id: Id, lamport: Option<u32>) -> Result<
     }
 }
 
-fn check_len(n: u32) -> Result<(), Refusal>
-    ensures { code_of result ≡ len_code n }
+fn check_len(len: u32) -> Result<(), Refusal>
+    ensures { code_of result ≡ len_code len }
 {
-    if n == 0 {
+    if len == 0 {
         Err(Refusal::Mismatch)
     } else {
         Ok(())
@@ -121,11 +121,11 @@ fn check_len(n: u32) -> Result<(), Refusal>
 
 // What refuses an entry itself.
 #[tactic(auto, unfolding(crate::specs::Given::given_code, crate::specs::Given::insert_code, crate::specs::Apply::entry_formed, crate::specs::Apply::entry_ids, crate::specs::Apply::entry_known))]
-pub fn check_given(g: Option<Entry>) -> Result<(), Refusal>
-    ensures { code_of result ≡ given_code g }
+pub fn check_given(entry: Option<Entry>) -> Result<(), Refusal>
+    ensures { code_of result ≡ given_code entry }
 {
-    match g {
-        Some(Entry::Retain(n) | Entry::Delete(n)) => check_len(n),
+    match entry {
+        Some(Entry::Retain(len) | Entry::Delete(len)) => check_len(len),
         Some(Entry::Insert(content, id, lamport)) => check_insert(content, id, lamport),
         None => Err(Refusal::Mismatch),
     }

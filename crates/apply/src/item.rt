@@ -20,37 +20,37 @@ pub struct Item {
 }
 
 // The item in row i. Loops over the rows that fit call it.
-pub fn get_item(s: &[u8], i: usize) -> Item
-    requires { i * 24 + 24 ≤ length s.now }
-    ensures { result ≡ item_in s.now i }
+pub fn get_item(rows: &[u8], i: usize) -> Item
+    requires { i * 24 + 24 ≤ length rows.now }
+    ensures { result ≡ item_in rows.now i }
 {
     let at = i * 24;
     Item {
         id: store::id_of(
-            u64::from_le_bytes(bytes_at(s, at)),
-            u32::from_le_bytes(bytes_at(s, at + 8)),
+            u64::from_le_bytes(bytes_at(rows, at)),
+            u32::from_le_bytes(bytes_at(rows, at + 8)),
         ),
         content: RichtextChunk {
-            start: u32::from_le_bytes(bytes_at(s, at + 12)),
-            end: u32::from_le_bytes(bytes_at(s, at + 16)),
+            start: u32::from_le_bytes(bytes_at(rows, at + 12)),
+            end: u32::from_le_bytes(bytes_at(rows, at + 16)),
         },
     }
 }
 
 // An item in row i. The room is asked before the first write.
-pub fn put_item(s: &mut [u8], i: usize, x: Item)
-    requires { i * 24 + 24 ≤ length s.old }
-    ensures { s.new ≡ put (i * 24) (item_bytes x) s.old }
+pub fn put_item(rows: &mut [u8], i: usize, item: Item)
+    requires { i * 24 + 24 ≤ length rows.old }
+    ensures { rows.new ≡ put (i * 24) (item_bytes item) rows.old }
 {
     let at = i * 24;
-    words::put(s, at, x.id.peer.to_le_bytes());
+    words::put(rows, at, item.id.peer.to_le_bytes());
     words::put_all(
-        s,
+        rows,
         at + 8,
         [
-            store::counter_bits(x.id).to_le_bytes(),
-            x.content.start.to_le_bytes(),
-            x.content.end.to_le_bytes(),
+            store::counter_bits(item.id).to_le_bytes(),
+            item.content.start.to_le_bytes(),
+            item.content.end.to_le_bytes(),
             [0; 4],
         ],
     );
@@ -67,25 +67,25 @@ pub fn item_of(unit: FugueSpan) -> Item
     }
 }
 
-// The units of a span, from row k of the output on. Callers have checked the span and the room.
+// The units of a span, from a row of the output on. Callers have checked the span and the room.
 #[tactic(auto, using(crate::proofs::Tabs::copy_room, span::proofs::Unique::in_range_lem))]
-pub fn put_units(out: &mut [u8], k: usize, x: FugueSpan)
-    requires { (span_code x ≡ 0) × ((k + len_span x) * 24 ≤ length out.old) }
-    ensures { out.new ≡ put (k * 24) (items_bytes (map item_of (units_of x))) out.old }
+pub fn put_units(out: &mut [u8], row: usize, span: FugueSpan)
+    requires { (span_code span ≡ 0) × ((row + len_span span) * 24 ≤ length out.old) }
+    ensures { out.new ≡ put (row * 24) (items_bytes (map item_of (units_of span))) out.old }
 {
-    for j in 0..x.rle_len() {
-        put_item(out, k + j as usize, item_of(x.piece(j, j + 1)));
+    for i in 0..span.rle_len() {
+        put_item(out, row + i as usize, item_of(span.piece(i, i + 1)));
     }
 }
 
-// The n items from row `at` of old on, from row k of the output on. Callers have counted both. The rows are not copied as bytes: what stands in
+// The n items from a row of old on, from a row of the output on. Callers have counted both. The rows are not copied as bytes: what stands in
 // the last four of an old row is not the new list's.
 #[tactic(auto, using(crate::proofs::Tabs::copy_room, crate::proofs::Tabs::copy_end, crate::proofs::Tabs::items_part))]
-pub fn copy_items(old: &[u8], at: usize, out: &mut [u8], k: usize, n: usize)
-    requires { ((at + n) * 24 ≤ length old.now) × ((k + n) * 24 ≤ length out.old) }
-    ensures { out.new ≡ put (k * 24) (items_bytes (take n (drop at (items_in old.now)))) out.old }
+pub fn copy_items(old: &[u8], from: usize, out: &mut [u8], row: usize, n: usize)
+    requires { ((from + n) * 24 ≤ length old.now) × ((row + n) * 24 ≤ length out.old) }
+    ensures { out.new ≡ put (row * 24) (items_bytes (take n (drop from (items_in old.now)))) out.old }
 {
-    for j in 0..n {
-        put_item(out, k + j, get_item(old, at + j));
+    for i in 0..n {
+        put_item(out, row + i, get_item(old, from + i));
     }
 }

@@ -17,14 +17,14 @@ use span::refusal::Refusal;
 use span::span::FugueSpan;
 use store::header;
 
-// The visible units of a row, from row k of the output on. The rows are well formed, and the room was asked before the first write.
+// The visible units of a span, from a row of the output on. The rows are well formed, and the room was asked before the first write.
 #[tactic(auto, using(crate::proofs::Shown::row_cases))]
-fn put_shown(out: &mut [u8], k: usize, row: FugueSpan)
-    requires { (span_code row ≡ 0) × ((k + active_len row) * 24 ≤ length out.old) }
-    ensures { out.new ≡ put (k * 24) (items_bytes (items (units_of row))) out.old }
+fn put_shown(out: &mut [u8], row: usize, span: FugueSpan)
+    requires { (span_code span ≡ 0) × ((row + active_len span) * 24 ≤ length out.old) }
+    ensures { out.new ≡ put (row * 24) (items_bytes (items (units_of span))) out.old }
 {
-    if row.is_activated() {
-        put_units(out, k, row);
+    if span.is_activated() {
+        put_units(out, row, span);
     }
 }
 
@@ -34,11 +34,11 @@ fn write_shown(s: &[u8], n: usize, out: &mut [u8])
     requires { Stored n s.now × (length (shown_items (rows n s.now)) * 24 ≤ length out.old) }
     ensures { out.new ≡ put 0 (items_bytes (shown_items (rows n s.now))) out.old }
 {
-    let mut k = 0;
+    let mut row = 0;
     for i in 0..n {
-        let row = store::get_row(s, i);
-        put_shown(out, k, row);
-        k += active_of(row);
+        let span = store::get_row(s, i);
+        put_shown(out, row, span);
+        row += active_of(span);
     }
 }
 

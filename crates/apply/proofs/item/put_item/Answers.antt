@@ -12,11 +12,11 @@ pub returns : goal.returns
 unfolding item_bytes bytes_of
 returns c =
     let a = c.args in
-    let h : a.i * 24 ≤ length a.s.now = omega (arith, c.requires) in
-    let peer = write_8 a.x.id.peer _ _ _ _ c.to_le_bytes.ensures c.put.ensures in
+    let h : a.i * 24 ≤ length a.rows.now = omega (arith, c.requires) in
+    let peer = write_8 a.item.id.peer _ _ _ _ c.to_le_bytes.ensures c.put.ensures in
     let rest = rw (
       c.to_le_bytes-2.ensures ∙ bytes_4 c.counter_bits.result ∙ ap (bytes_of 4) c.counter_bits.ensures.0,
-      c.to_le_bytes-3.ensures ∙ bytes_4 a.x.content.start,
-      c.to_le_bytes-4.ensures ∙ bytes_4 a.x.content.end,
+      c.to_le_bytes-3.ensures ∙ bytes_4 a.item.content.start,
+      c.to_le_bytes-4.ensures ∙ bytes_4 a.item.content.end,
     ) at c.put_all.ensures in
-    next a.s.now _ _ (a.i * 24) _ h peer rest refl
+    next a.rows.now _ _ (a.i * 24) _ h peer rest refl
