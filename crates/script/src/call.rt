@@ -249,7 +249,7 @@ fn row(t: &[u8]) -> Option<Call>
     Some(Call::Look(Look::Row(i, span)))
 }
 
-// A line of one word.
+// A line of one word. The names are compared by `==`: a `match` on byte strings tells the proof of its `_` arm lengths and no names.
 #[tactic(auto, unfolding(crate::specs::Call::alone_of))]
 fn alone(name: &[u8]) -> Option<Call>
     ensures { result ≡ alone_of name.now }

@@ -29,7 +29,7 @@ pub fn words(line: &[u8]) -> usize
 pub fn number(w: &[u8]) -> Option<u32>
     ensures { result ≡ number_of w.now }
 {
-    u32::try_from(decimal(w, 4294967295)?).ok()
+    u32::try_from(decimal(w, u64::from(u32::MAX))?).ok()
 }
 
 // A decimal u64, or `U` for the unknown peer.
@@ -40,7 +40,7 @@ pub fn peer(w: &[u8]) -> Option<u64>
     if w == b"U".as_slice() {
         Some(UNKNOWN_PEER)
     } else {
-        decimal(w, 18446744073709551615)
+        decimal(w, u64::MAX)
     }
 }
 
@@ -49,7 +49,7 @@ pub fn peer(w: &[u8]) -> Option<u64>
 fn counter(w: &[u8]) -> Option<i32>
     ensures { result ≡ counter_of w.now }
 {
-    i32::try_from(signed(w, 2147483647)?).ok()
+    i32::try_from(signed(w, i32::MAX as u32)?).ok()
 }
 
 // A peer with a counter from another word.
@@ -125,7 +125,7 @@ pub fn opt_status(w: &[u8]) -> Option<Option<Status>>
 pub fn change(w: &[u8]) -> Option<i16>
     ensures { result ≡ change_word w.now }
 {
-    i16::try_from(signed(w, 32767)?).ok()
+    i16::try_from(signed(w, i16::MAX as u32)?).ok()
 }
 
 // 0 or 1, as they stand

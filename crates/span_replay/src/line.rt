@@ -8,9 +8,9 @@ use text::numbers::{decimal, signed};
 fn number(word: &[u8]) -> Option<u64>
     ensures { result ≡ number_of word.now }
 {
-    match signed(word, 2147483647) {
+    match signed(word, i32::MAX as u32) {
         Some(n) => Some(n.cast_unsigned() % 4294967296),
-        None => decimal(word, 18446744073709551615),
+        None => decimal(word, u64::MAX),
     }
 }
 
