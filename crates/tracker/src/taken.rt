@@ -12,6 +12,7 @@ ghost use Rattle.history.specs.Valid.{total, act_length, targets_fit};
 ghost use Rattle.tracker.specs.Rows.{to_act, to_range, ranges, took_in, edit_in, held, used};
 ghost use Rattle.tracker.specs.Follow.{ids_in, ids_of, in_order, runs_into, well_ranges, took_fits, Walks};
 
+use crate::range;
 use crate::row::{Does, Target, get_head, get_target, get_took};
 use rope::find::offset_of;
 use span::span::FugueSpan;
@@ -84,7 +85,7 @@ fn runs_into(t: &[u8], m: usize, j: usize, r: Target) -> bool
     requires { (m * 16 ≤ length t.now) × (j < m) × (room_of r.id r.len ≡ true) }
     ensures { result ≡ runs_into (to_range r) (drop (j + 1) (ranges m t.now)) }
 {
-    j + 1 < m && r.id.inc(r.len) == get_target(t, j + 1).id
+    j + 1 < m && range::follows(r, get_target(t, j + 1).id)
 }
 
 // Whether m ranges are not empty, have room, and do not go on in the next one.

@@ -8,6 +8,7 @@ ghost use Rattle.rope.specs.Reports.{Taken};
 ghost use Rattle.tracker.specs.Rows.{to_range};
 ghost use Rattle.tracker.specs.Targets.{targets_of, part_range, Adds, Added, Wrote};
 
+use crate::range::follows;
 use crate::row::{Target, get_target, put_target};
 use rope::change::Delete;
 use span::span::FugueSpan;
@@ -20,7 +21,7 @@ pub fn add_target(t: &mut [u8], at: usize, k: usize, x: Target) -> usize
     let end = at + k;
     if 0 < k {
         let last = get_target(t, end - 1);
-        if last.id.inc(last.len) == x.id {
+        if follows(last, x.id) {
             let both = Target {
                 len: last.len + x.len,
                 ..last

@@ -1,36 +1,33 @@
 use Rattle.tracker.proofs.Targeting.{last_roomy, sum_fits, own_room, first_room, added_joined, added_own, added_first}
-use Rattle.span.specs.declared.ids.Id.{Id}
-use Rattle.span.specs.Ids.{same_id}
-use Rattle.span.proofs.Derived.{id_derived}
 use Prim.Native.Nat.{◌^◌, ◌<◌}
-use mathlib.Core.Path.{sym, ap, ◌∙◌}
+use mathlib.Core.Path.{sym, ◌∙◌}
 use native.Mathlib.Omega.{arith}
-use Rattle.tracker.proofs.targets.add_target.Goals.{then-k-gt0+else-eq, else-k-gt0}
+use Rattle.tracker.proofs.targets.add_target.Goals.{then-k-gt0+else-follows, else-k-gt0}
 use Rattle.tracker.proofs.targets.add_target.Goals as goal
 
-pub inc-requires : goal.inc-requires
-inc-requires c = let a = c.args in last_roomy a.at a.k a.x a.t.now c.requires c.if-k-gt0.true c.get_target-last.result c.get_target-last.ensures
+pub follows-requires : goal.follows-requires
+follows-requires c = let a = c.args in last_roomy a.at a.k a.x a.t.now c.requires c.if-k-gt0.true c.get_target-last.result c.get_target-last.ensures
 
 pub overflow_add-both : goal.overflow_add-both
 overflow_add-both c = let a = c.args in
-    let n = sum_fits a.at a.k a.x a.t.now c.requires c.if-k-gt0.true c.get_target-last.result c.get_target-last.ensures (ap (λ (i : Id). same_id i a.x.id) (sym c.inc.ensures) ∙ (sym (id_derived c.inc.result a.x.id) ∙ (sym c.eq.ensures ∙ c.if-eq.true))) in record { fits = omega (arith, n) }
+    let n = sum_fits a.at a.k a.x a.t.now c.requires c.if-k-gt0.true c.get_target-last.result c.get_target-last.ensures (sym c.follows.ensures ∙ c.if-follows.true) in record { fits = omega (arith, n) }
 
 pub put_target-requires-2 : goal.put_target-requires-2
 put_target-requires-2 c = let a = c.args in
     elim c.if-k-gt0.branch [
-      then-k-gt0+else-eq w ↦ own_room a.at a.k a.x a.t.now c.requires w.if-k-gt0.true w.get_target-last.result w.get_target-last.ensures (ap (λ (i : Id). same_id i a.x.id) (sym w.inc.ensures) ∙ (sym (id_derived w.inc.result a.x.id) ∙ (sym w.eq.ensures ∙ w.if-eq.false)))
+      then-k-gt0+else-follows w ↦ own_room a.at a.k a.x a.t.now c.requires w.if-k-gt0.true w.get_target-last.result w.get_target-last.ensures (sym w.follows.ensures ∙ w.if-follows.false)
     | else-k-gt0 w ↦ first_room a.at a.k a.x a.t.now c.requires (omega (arith, w.if-k-gt0.false))
     ]
 
-pub returns-then-eq : goal.returns-then-eq
-returns-then-eq c = let a = c.args in
+pub returns-then-follows : goal.returns-then-follows
+returns-then-follows c = let a = c.args in
     let q : c.get_target-last.result.id.peer < 2 ^ 64 = omega (arith, c.get_target-last.type_inv) in
-    added_joined a.at a.k a.x a.t.now c.requires c.if-k-gt0.true c.get_target-last.result c.get_target-last.ensures (ap (λ (i : Id). same_id i a.x.id) (sym c.inc.ensures) ∙ (sym (id_derived c.inc.result a.x.id) ∙ (sym c.eq.ensures ∙ c.if-eq.true))) q _ c.put_target.ensures
+    added_joined a.at a.k a.x a.t.now c.requires c.if-k-gt0.true c.get_target-last.result c.get_target-last.ensures (sym c.follows.ensures ∙ c.if-follows.true) q _ c.put_target.ensures
 
 pub returns : goal.returns
 returns c = let a = c.args in
     let q : a.x.id.peer < 2 ^ 64 = omega (arith, c.well_formed) in
     elim c.if-k-gt0.branch [
-      then-k-gt0+else-eq w ↦ added_own a.at a.k a.x a.t.now c.requires w.if-k-gt0.true w.get_target-last.result w.get_target-last.ensures (ap (λ (i : Id). same_id i a.x.id) (sym w.inc.ensures) ∙ (sym (id_derived w.inc.result a.x.id) ∙ (sym w.eq.ensures ∙ w.if-eq.false))) q _ c.put_target-2.ensures
+      then-k-gt0+else-follows w ↦ added_own a.at a.k a.x a.t.now c.requires w.if-k-gt0.true w.get_target-last.result w.get_target-last.ensures (sym w.follows.ensures ∙ w.if-follows.false) q _ c.put_target-2.ensures
     | else-k-gt0 w ↦ added_first a.at a.k a.x a.t.now c.requires (omega (arith, w.if-k-gt0.false)) q _ c.put_target-2.ensures
     ]
