@@ -1,29 +1,28 @@
 -- a delta applied to the list of a store, call by call
-use Rattle.std.proofs.Common.{◌≡◌, ℕ, ◌+◌, ◌*◌, ◌/◌, Bool, true, false, cond, eqb, List, ◌++◌, length, take, drop, replicate, sym, refl, ap, ◌∙◌, arith, take_at, ne_eqb, eqb-true}
-use borrow.Author.Tests.{eqb-false}
+use Rattle.std.proofs.Common.{◌≡◌, ℕ, ◌+◌, ◌*◌, ◌/◌, List, ◌++◌, length, take, drop, replicate, sym, ap, ◌∙◌, arith, take_at, ne_eqb}
 use lib.ListN.{length-replicate}
 use Rattle.words.specs.Le.{put}
-use Rattle.span.specs.Answer.{answer}
 use Rattle.span.specs.declared.span.FugueSpan.{FugueSpan}
 use Rattle.rope.specs.declared.diff.EntryNumbers.{EntryNumbers}
 use Rattle.rope.specs.Maybe.{DiffAnswer}
-use Rattle.std.specs.Prelude.{Ok}
-use Rattle.span.specs.Refusal.{refused}
+use Rattle.std.specs.Prelude.{Ok, Err}
+use Rattle.span.specs.declared.refusal.Refusal.{Refusal}
+use Rattle.span.specs.Refusal.{number_of}
+use Rattle.span.proofs.RefusalLaws.{number_not_zero}
 use Rattle.units.specs.Store.{spans_of}
 use Rattle.units.specs.Delta.{entries}
 use Rattle.rope.specs.Columns.{Diffed}
 use Rattle.apply.specs.declared.item.Item.{Item}
 use Rattle.apply.specs.Maybe.{ApplyAnswer}
-use Rattle.std.specs.Prelude.{Ok as Done}
-use Rattle.span.specs.Refusal.{refused as Refused}
 use Rattle.apply.specs.Items.{items_in, items_bytes}
 use Rattle.apply.specs.Called.{Called, delta_items, delta_code, shown_items, shown_code, visible_code}
 use Rattle.apply.proofs.Tabs.{length_items}
 use Rattle.apply.proofs.Back.{column_cut}
-use Rattle.apply.proofs.Coded.{length_in, called_refused}
+use Rattle.apply.proofs.Coded.{length_in, called_err}
 use Rattle.tracker.specs.Entries.{version_of}
 use Rattle.tracker.specs.Between.{Deltas}
 use Rattle.session.specs.Say.{Says}
+use Rattle.session.proofs.NumberLaws.{IsNumber, answered_ok, answered_err, number_of_list}
 use Rattle.session.specs.Entries.{answer_lines}
 use Rattle.session.specs.Columns.{word_peers, word_counts}
 use Rattle.session.specs.Applied.{list_code, list_rows, or_else, on_list_items, on_list_code, new_items, new_code, told_entries, applied_code, AppliesIn, row_room, front, Applies}
@@ -35,24 +34,6 @@ pub called_as : (out : List ℕ) {k a b p c l o k2 a2 b2 p2 c2 l2 o2 : List ℕ}
     → Called (delta_code k a b p c l o out) (delta_items k a b p c l o) out r out'
 called_as out e1 e2 e3 e4 e5 e6 e7 d = rw (e1, e2, e3, e4, e5, e6, e7) at d
 
--- ---- the answers of calls, by their codes
-
-answer_done : (code m n : ℕ) → Done n ≡ answer Done Refused code m → (code ≡ 0) × (n ≡ m)
-unfolding answer
-answer_done code m n q = go (eqb code 0) refl q
-  where
-    go : (t : Bool) → eqb code 0 ≡ t → Done n ≡ cond t (Done m) (Refused code) → (code ≡ 0) × (n ≡ m)
-    go true e q = (eqb-true code 0 e, cc)
-    go false e q = absurd (let z : ◌≡◌ {A = ℕ} 0 1 = cc in omega arith)
-
-answer_refused : (code m j : ℕ) → Refused j ≡ answer Done Refused code m → (j ≡ code) × (j ≡ 0 → ⊥)
-unfolding answer
-answer_refused code m j q = go (eqb code 0) refl q
-  where
-    go : (t : Bool) → eqb code 0 ≡ t → Refused j ≡ cond t (Done m) (Refused code) → (j ≡ code) × (j ≡ 0 → ⊥)
-    go true e q = absurd (let z : ◌≡◌ {A = ℕ} 0 1 = cc in omega arith)
-    go false e q = let h : j ≡ code = cc in (h, λ z. eqb-false code 0 e (sym h ∙ z))
-
 -- ---- the list of a store
 
 module _ (s old : List ℕ) (h : length old ≡ 589824) {r : ApplyAnswer} {old2 : List ℕ} (d : Called (visible_code s old) (shown_items (spans_of s)) old r old2) where
@@ -63,26 +44,26 @@ module _ (s old : List ℕ) (h : length old ≡ 589824) {r : ApplyAnswer} {old2 
   unfolding visible_code shown_code list_code
   code_is = rw many
 
-  pub list_done : (m : ℕ) {f : List ℕ} → r ≡ Done m → f ≡ take (m * 24) old2 → (list_code s ≡ 0) × (f ≡ list_rows s)
+  pub list_done : (m : ℕ) {f : List ℕ} → r ≡ Ok m → f ≡ take (m * 24) old2 → (list_code s ≡ 0) × (f ≡ list_rows s)
   unfolding list_rows put
   list_done m e g =
-      let w = answer_done (visible_code s old) (length (shown_items (spans_of s))) m (sym e ∙ d.said) in
+      let w = answered_ok (visible_code s old) (length (shown_items (spans_of s))) (sym e ∙ d.said) in
       let x : old2 ≡ put 0 (items_bytes (shown_items (spans_of s))) old = rw w.0 at d.left in (
         sym code_is ∙ w.0,
         g ∙ rw (x, w.1)
             (take_at (items_bytes (shown_items (spans_of s))) (drop (0 + length (items_bytes (shown_items (spans_of s)))) old) (length (shown_items (spans_of s)) * 24) (length_items (shown_items (spans_of s)))),
       )
 
-  pub list_refused : (j : ℕ) → r ≡ Refused j → (j ≡ list_code s) × (j ≡ 0 → ⊥)
-  list_refused j e =
-      let w = answer_refused (visible_code s old) (length (shown_items (spans_of s))) j (sym e ∙ d.said) in
-      (w.0 ∙ code_is, w.1)
+  pub list_refused : (e : Refusal) → r ≡ Err e → number_of e ≡ list_code s
+  list_refused e q =
+      let k : IsNumber (visible_code s old) = rw code_is (number_of_list s) in
+      (answered_err (visible_code s old) (length (shown_items (spans_of s))) k (sym q ∙ d.said)).0 ∙ code_is
 
 -- what the call that lists into 589,824 zeros tells, with the zeros left out
 pub record Shown (s : List ℕ) (r : ApplyAnswer) (old2 : List ℕ) : Type 0 where
   pub long : 589824 ≡ length old2
-  pub done : (m : ℕ) {f : List ℕ} → r ≡ Done m → f ≡ take (m * 24) old2 → (list_code s ≡ 0) × (f ≡ list_rows s)
-  pub refused : (j : ℕ) → r ≡ Refused j → (j ≡ list_code s) × (j ≡ 0 → ⊥)
+  pub done : (m : ℕ) {f : List ℕ} → r ≡ Ok m → f ≡ take (m * 24) old2 → (list_code s ≡ 0) × (f ≡ list_rows s)
+  pub refused : (e : Refusal) → r ≡ Err e → number_of e ≡ list_code s
 
 pub is_shown : (s : List ℕ) {r : ApplyAnswer} (old2 : List ℕ) → length old2 ≡ length (replicate {A = ℕ} 589824 0)
     → Called (visible_code s (replicate 589824 0)) (shown_items (spans_of s)) (replicate 589824 0) r old2 → Shown s r old2
@@ -91,30 +72,14 @@ is_shown s old2 e d =
     record { long = sym (e ∙ h); done = λ m {f} p q. list_done s (replicate 589824 0) h d m p q; refused = list_refused s (replicate 589824 0) h d }
 
 -- a refusal goes before the next call
-module _ (first next j : ℕ) (new : List Item) (out : List ℕ) where
-  pub or_refused : (j ≡ first) × (j ≡ 0 → ⊥) → Called (or_else first next) new out (Refused j) out
-  or_refused w = called_refused (or_else first next) j new out w.1 (w.0 ∙ rw (ne_eqb first 0 (λ z. w.1 (w.0 ∙ z))))
+module _ (first next : ℕ) (new : List Item) (out : List ℕ) where
+  pub or_refused : (e : Refusal) → number_of e ≡ first → Called (or_else first next) new out (Err e) out
+  or_refused e q = called_err (or_else first next) e new out (q ∙ rw (ne_eqb first 0 (λ z. number_not_zero e (q ∙ z))))
 
   pub or_next : {r : ApplyAnswer} {out' : List ℕ} → first ≡ 0 → Called next new out r out' → Called (or_else first next) new out r out'
   or_next e d = rw e d
 
 -- ---- the delta's entries, cut out of its columns
-
-diff_done : (code m n : ℕ) → Ok n ≡ answer Ok refused code m → (code ≡ 0) × (n ≡ m)
-unfolding answer
-diff_done code m n q = go (eqb code 0) refl q
-  where
-    go : (t : Bool) → eqb code 0 ≡ t → Ok n ≡ cond t (Ok m) (refused code) → (code ≡ 0) × (n ≡ m)
-    go true e q = (eqb-true code 0 e, cc)
-    go false e q = absurd (let z : ◌≡◌ {A = ℕ} 0 1 = cc in omega arith)
-
-diff_refused : (code m j : ℕ) → refused j ≡ answer Ok refused code m → (j ≡ code) × (j ≡ 0 → ⊥)
-unfolding answer
-diff_refused code m j q = go (eqb code 0) refl q
-  where
-    go : (t : Bool) → eqb code 0 ≡ t → refused j ≡ cond t (Ok m) (refused code) → (j ≡ code) × (j ≡ 0 → ⊥)
-    go true e q = absurd (let z : ◌≡◌ {A = ℕ} 0 1 = cc in omega arith)
-    go false e q = let h : j ≡ code = cc in (h, λ z. eqb-false code 0 e (sym h ∙ z))
 
 module _ (code : ℕ) (spans : List FugueSpan) (k a b p c l : List ℕ) {k2 a2 b2 p2 c2 l2 : List ℕ} {r : DiffAnswer} (d : Diffed code spans r k a b p c l k2 a2 b2 p2 c2 l2) where
   pub new_done : (n : ℕ) (s out : List ℕ) {q : ApplyAnswer} {out' : List ℕ} → r ≡ Ok n
@@ -122,9 +87,9 @@ module _ (code : ℕ) (spans : List FugueSpan) (k a b p c l : List ℕ) {k2 a2 b
       → Called (or_else code (new_code (entries spans) s out)) (new_items (entries spans) s) out q out'
   unfolding new_code new_items
   new_done n s out e v =
-      let w = diff_done code (length (entries spans)) n (sym e ∙ d.said) in
+      let w = answered_ok code (length (entries spans)) (sym e ∙ d.said) in
       let u = rw w.1 at v in
-      or_next code _ 0 _ out w.0
+      or_next code _ _ out w.0
       (rw (
         column_cut (λ (x : EntryNumbers). x.kind) (entries spans) k k2 (rw w.0 at d.kind),
         column_cut (λ (x : EntryNumbers). x.a) (entries spans) a a2 (rw w.0 at d.first),
@@ -134,8 +99,8 @@ module _ (code : ℕ) (spans : List FugueSpan) (k a b p c l : List ℕ) {k2 a2 b
         column_cut (λ (x : EntryNumbers). x.lamport) (entries spans) l l2 (rw w.0 at d.lamport),
       ) at u)
 
-  pub new_refused : (j : ℕ) (s out : List ℕ) → r ≡ refused j → Called (or_else code (new_code (entries spans) s out)) (new_items (entries spans) s) out (Refused j) out
-  new_refused j s out e = or_refused code _ j _ out (diff_refused code (length (entries spans)) j (sym e ∙ d.said))
+  pub new_refused : (e : Refusal) (s out : List ℕ) → number_of e ≡ code → Called (or_else code (new_code (entries spans) s out)) (new_items (entries spans) s) out (Err e) out
+  new_refused e s out q = or_refused code _ _ out e q
 
 -- the delta and the list
 module _ (v w s t e : List ℕ) (most : ℕ) {r : DiffAnswer} {s' k x y p c l k2 x2 y2 p2 c2 l2 : List ℕ} where

@@ -18,9 +18,10 @@ use Rattle.rope.specs.Maybe.{DiffAnswer}
 use Rattle.std.specs.Prelude.{Ok, Err}
 use Rattle.span.specs.declared.refusal.Refusal.{Refusal}
 use Rattle.span.specs.Refusal.{number_of}
+use Rattle.span.proofs.RefusalLaws.{number_not_zero}
 use Rattle.rope.specs.Columns.{entry_numbers, column, least, Filled, Diffed}
 use Rattle.session.specs.Say.{up_to, Says}
-use Rattle.session.proofs.NumberLaws.{IsNumber, answered_ok, answered_err}
+use Rattle.session.proofs.NumberLaws.{answered_ok}
 use Rattle.session.specs.Lines.{refused_lines}
 use Rattle.session.specs.Entries.{lamport_text, insert_line, entry_line, numbers_at, entry_at, columns_lines, entries_lines, delta_lines}
 
@@ -81,9 +82,9 @@ module _ (code : ℕ) (spans : List FugueSpan) (k a b p c l : List ℕ) {k2 a2 b
         lamport = rw w.0 at d.lamport;
       }))
 
-  pub delta_refused : (e : Refusal) → r ≡ Err e → IsNumber code → refused_lines (number_of e) ≡ delta_lines code (entries spans)
-  unfolding delta_lines
-  delta_refused e f n = let w = answered_err code (length (entries spans)) n (sym f ∙ d.said) in rw (w.0, ne_eqb code 0 w.1)
+pub delta_refused : (code : ℕ) (spans : List FugueSpan) (e : Refusal) → number_of e ≡ code → refused_lines (number_of e) ≡ delta_lines code (entries spans)
+unfolding delta_lines
+delta_refused code spans e q = rw (← q, ne_eqb (number_of e) 0 (number_not_zero e))
 
 -- columns that are all of one length
 pub lent : {k a b p c l n : ℕ} → k ≡ n → a ≡ n → b ≡ n → p ≡ n → c ≡ n → l ≡ n → least k a b p c l ≡ n

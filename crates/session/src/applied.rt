@@ -14,7 +14,7 @@ ghost use Rattle.session.specs.Applied.{on_list_items, on_list_code, AppliesIn, 
 use crate::console::Output;
 use crate::entries::most;
 use crate::front::{front, front_items};
-use crate::versions::columns;
+use crate::versions::Columns;
 use crate::{entries, reply};
 use apply::item::get_item;
 use script::field::word;
@@ -37,20 +37,16 @@ fn delta_into(
 ) -> Result<usize, Refusal>
     ensures { Deltas s.old t.now e.now (version_of (word_peers (word_of line.now 1)) (word_counts (word_of line.now 1))) (version_of (word_peers (word_of line.now 2)) (word_counts (word_of line.now 2))) (least (length kind.old) (length a.old) (length b.old) (length peer.old) (length counter.old) (length lamport.old)) result s.new kind.old a.old b.old peer.old counter.old lamport.old kind.new a.new b.new peer.new counter.new lamport.new }
 {
-    let mut from_peers = [0u64; 32];
-    let mut from_counts = [0u32; 32];
-    let n = columns(word(line, 1), &mut from_peers, &mut from_counts);
-    let mut to_peers = [0u64; 32];
-    let mut to_counts = [0u32; 32];
-    let m = columns(word(line, 2), &mut to_peers, &mut to_counts);
+    let from = Columns::new(word(line, 1));
+    let to = Columns::new(word(line, 2));
     tracker::delta::delta(
         s,
         t,
         e,
-        front(&from_peers, n),
-        front(&from_counts, n),
-        front(&to_peers, m),
-        front(&to_counts, m),
+        from.peers(),
+        from.counts(),
+        to.peers(),
+        to.counts(),
         kind,
         a,
         b,

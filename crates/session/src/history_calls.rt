@@ -4,8 +4,7 @@ ghost use Rattle.session.specs.History.{Arrives, Goes};
 ghost use Rattle.session.specs.HistoryCalls.{insert_head, delete_head, HistorySays};
 
 use crate::console::Output;
-use crate::front::front;
-use crate::versions::columns;
+use crate::versions::Columns;
 use crate::{applied, reply};
 use script::call::{Arriving, HistoryCall, Insert};
 use script::field::word;
@@ -45,10 +44,8 @@ fn arrive(
 ) -> usize
     ensures { Arrives x w.now s.old t.old e.old at text.old result s.new t.new e.new text.new }
 {
-    let mut peers = [0u64; 32];
-    let mut counts = [0u32; 32];
-    let n = columns(w, &mut peers, &mut counts);
-    let outcome = tracker::arrive::arrive(s, t, e, x, front(&peers, n), front(&counts, n));
+    let version = Columns::new(w);
+    let outcome = tracker::arrive::arrive(s, t, e, x, version.peers(), version.counts());
     reply::done(output, text, at, outcome)
 }
 
@@ -64,10 +61,8 @@ fn checkout(
 ) -> usize
     ensures { Goes w.now s.old t.now e.now at text.old result s.new text.new }
 {
-    let mut peers = [0u64; 32];
-    let mut counts = [0u32; 32];
-    let n = columns(w, &mut peers, &mut counts);
-    let outcome = tracker::checkout::checkout(s, t, e, front(&peers, n), front(&counts, n));
+    let version = Columns::new(w);
+    let outcome = tracker::checkout::checkout(s, t, e, version.peers(), version.counts());
     reply::done(output, text, at, outcome)
 }
 

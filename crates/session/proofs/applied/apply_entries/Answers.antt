@@ -5,11 +5,11 @@ use Rattle.session.proofs.applied.apply_entries.Goals as goal
 pub returns : goal.returns
 returns c =
     called_as _
-    c.front8.ensures
-    c.front32.ensures
-    c.front32-2.ensures
-    c.front64.ensures
-    c.front32-3.ensures
-    c.front32-4.ensures
+    c.front.ensures
+    c.front-2.ensures
+    c.front-3.ensures
+    c.front-4.ensures
+    c.front-5.ensures
+    c.front-6.ensures
     refl
     c.apply.ensures

@@ -1,10 +1,10 @@
 use Rattle.session.specs.Entries.{answer_lines}
 use Rattle.session.proofs.applied.listed.Goals as goal
 
-pub returns-in-Done : goal.returns-in-Done
+pub returns-in-Ok : goal.returns-in-Ok
 unfolding answer_lines
-returns-in-Done c = rw c.in-Done.is c.items.ensures
+returns-in-Ok c = rw c.in-Ok.is c.items.ensures
 
-pub returns-in-Refused : goal.returns-in-Refused
+pub returns-in-Err : goal.returns-in-Err
 unfolding answer_lines
-returns-in-Refused c = rw c.in-Refused.is c.refused.ensures
+returns-in-Err c = rw c.in-Err.is c.refused.ensures

@@ -1,8 +1,8 @@
-use Rattle.session.proofs.HistoryLaws.{front_peers, front_counts, is_arriving}
+use Rattle.std.proofs.Common.{◌∙◌}
+use Rattle.session.proofs.HistoryLaws.{is_arriving}
 use Rattle.session.proofs.history_calls.arrive.Goals as goal
 
 pub returns : goal.returns
 returns c =
-    let e = c.columns-n.ensures in
-    let w = c.args.w.now in
-    is_arriving w _ _ _ _ _ (front_peers w e.0 c.front64.ensures e.1) (front_counts w e.0 c.front32.ensures e.2) c.done.ensures _ c.arrive-code.ensures
+    let v = c.new-version.ensures in
+    is_arriving c.args.w.now _ _ _ _ _ (c.peers.ensures ∙ v.peers) (c.counts.ensures ∙ v.counts) c.done.ensures _ c.arrive-outcome.ensures

@@ -1,8 +1,8 @@
-use Rattle.session.proofs.HistoryLaws.{front_peers, front_counts, is_going}
+use Rattle.std.proofs.Common.{◌∙◌}
+use Rattle.session.proofs.HistoryLaws.{is_going}
 use Rattle.session.proofs.history_calls.checkout.Goals as goal
 
 pub returns : goal.returns
 returns c =
-    let e = c.columns-n.ensures in
-    let w = c.args.w.now in
-    is_going w _ _ _ _ _ (front_peers w e.0 c.front64.ensures e.1) (front_counts w e.0 c.front32.ensures e.2) c.done.ensures c.checkout-code.ensures
+    let v = c.new-version.ensures in
+    is_going c.args.w.now _ _ _ _ _ (c.peers.ensures ∙ v.peers) (c.counts.ensures ∙ v.counts) c.done.ensures c.checkout-outcome.ensures

@@ -11,7 +11,7 @@ pub returns-else-to-bytes : goal.returns-else-to-bytes
 returns-else-to-bytes c =
     let a = c.args in
     let e : between a.bytes.now a.from a.to ≡ [] = elim c.else-to-bytes.branch [
-      else-to-bytes-via-then-to-bytes+else-from-to w ↦ between_none _ _ _ (omega arith)
-    | else-to-bytes-via-else-to-bytes w ↦ between_out _ _ _ (omega arith)
+      | else-to-bytes-via-then-to-bytes+else-from-to w ↦ between_none _ _ _ (omega arith)
+      | else-to-bytes-via-else-to-bytes w ↦ between_out _ _ _ (omega arith)
     ] in
     front_none a.bytes.now a.from a.to e
