@@ -14,9 +14,8 @@ fn main(rt: HostRuntime) -> io::Result<()> {
         }
         Err(FillError::TooLong) => return eprintln!(rt; "path: File name too long"),
     };
-    let path = match str::from_utf8(&path[..n]) {
-        Ok(path) => path,
-        Err(_) => return eprintln!(rt; "path: not UTF-8"),
+    let Ok(path) = str::from_utf8(&path[..n]) else {
+        return eprintln!(rt; "path: not UTF-8");
     };
     match fs::open(&rt, path) {
         Ok(file) => session::run(Source::Named(file), rt.stdout()),

@@ -13,8 +13,8 @@ use Rattle.span.specs.declared.status.Status.{Status}
 use Rattle.span.specs.Maybe.{OptStatus}
 use Rattle.span.specs.declared.span.FugueSpan.{FugueSpan}
 use Rattle.span.specs.Maybe.{SpanAnswer}
-use Rattle.std.specs.Prelude.{Some, None, Ok}
-use Rattle.span.specs.Refusal.{refused}
+use Rattle.std.specs.Prelude.{Some, None, Ok, Err}
+use Rattle.span.specs.Refusal.{number_of}
 use Rattle.span.specs.declared.chunk.RichtextChunk.{RichtextChunk}
 use Rattle.span.specs.declared.chunk.RichtextChunkValue.{RichtextChunkValue}
 use Rattle.span.specs.declared.chunk.RichtextChunkValue.TheVariants as Value
@@ -23,9 +23,7 @@ use Rattle.span.specs.Ids.{UNKNOWN_PEER}
 use Rattle.span.specs.Chunk.{value_of}
 use Rattle.span.specs.Span.{len_span, slice_span_of}
 use Rattle.store.specs.Row.{row_at}
-use Rattle.rope.specs.Maybe.{LenAnswer}
-use Rattle.rope.specs.declared.query.RealAnswer.{RealAnswer}
-use Rattle.rope.specs.declared.query.RealAnswer.TheVariants as Real
+use Rattle.rope.specs.Maybe.{LenAnswer, RealAnswer}
 use Rattle.script.specs.declared.call.Look.{Look}
 use Rattle.script.specs.declared.call.Look.TheVariants as Look
 use Rattle.script.specs.Print.{peer_text, number_text, id_text, opt_id_text, future_text, status_text, opt_status_text, named_text, value_text, span_text, head_line, unit_line, span_line, item_line, at_line}
@@ -201,13 +199,13 @@ short_done code = go (eqb code 0)
 pub short_len : (a : LenAnswer) → Short (len_lines a)
 unfolding len_lines
 short_len (Ok n) = short_head (ascii "len") n (omega arith)
-short_len (refused code) = short_refused code
+short_len (Err e) = short_refused (number_of e)
 
 pub short_at : (a : RealAnswer) → Short (at_lines a)
 unfolding at_lines
-short_at (Real.At i n) = short_line (at_line i n) (at_most i n)
-short_at Real.Nothing = short_line (ascii "at nothing" ++ (10 ∷ [])) (omega arith)
-short_at (Real.Refused code) = short_refused code
+short_at (Ok (Some (i, n))) = short_line (at_line i n) (at_most i n)
+short_at (Ok None) = short_line (ascii "at nothing" ++ (10 ∷ [])) (omega arith)
+short_at (Err e) = short_refused (number_of e)
 
 pub short_sum : (n : ℕ) → Short (sum_lines n)
 short_sum n = short_line (ascii "sum " ++ last_digits 16 16 n ++ (10 ∷ [])) (simp length-append (omega (arith, digits_length 16 16 n)))
@@ -221,7 +219,7 @@ one_short Kind.Items u = short_line (item_line _ u.content) (item_most _ u.conte
 unit_short : (kind : Kind) (a : SpanAnswer) → Short (unit_lines kind a)
 unfolding unit_lines
 unit_short kind (Ok u) = one_short kind u
-unit_short kind (refused code) = short_none
+unit_short kind (Err e) = short_none
 
 span_short : (kind : Kind) (x : FugueSpan) → Short (span_lines kind x)
 unfolding span_lines

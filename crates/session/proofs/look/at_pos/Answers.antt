@@ -11,7 +11,7 @@ returns-in-Ok-Some c =
     let a = c.args in
     let m = c.in-Ok-Some in
     let done : a.a ≡ Ok m.field-0 = m.is in
-    let found : m.field-0 ≡ Some (m.id, m.left) = m.field-0-is in
+    let found : m.field-0 ≡ Some (m.id, m.left) = rw done at m.field-0-is in
     rw (done, found) (says_line a.at _ a.text.now c.make_room-at.ensures c.at_line.ensures)
 
 pub returns-in-Ok-None : goal.returns-in-Ok-None
@@ -20,7 +20,7 @@ returns-in-Ok-None c =
     let a = c.args in
     let m = c.in-Ok-None in
     let done : a.a ≡ Ok m.field-0 = m.is in
-    let nothing : m.field-0 ≡ None = m.field-0-is in
+    let nothing : m.field-0 ≡ None = rw done at m.field-0-is in
     rw (done, nothing) (says_line a.at (ascii "at nothing" ++ (10 ∷ [])) a.text.now c.make_room-at-in-Ok-None.ensures c.put.ensures)
 
 pub returns-in-Err : goal.returns-in-Err
