@@ -11,7 +11,7 @@ ghost use Rattle.apply.specs.Called.{Allowed, Called, delta_items, delta_code};
 
 use crate::columns::Columns;
 use crate::given::{check_given, gives, takes};
-use crate::item::{Item, copy_items, get_item, put_units};
+use crate::item::{ITEM_BYTES, Item, copy_items, get_item, put_units};
 use span::chunk::RichtextChunk;
 use span::ids::Id;
 use span::refusal::Refusal;
@@ -27,9 +27,9 @@ fn lower(x: Result<(), Refusal>, y: Result<(), Refusal>) -> Result<(), Refusal>
     ensures { code_of result ≡ lower (code_of x) (code_of y) }
 {
     match (x, y) {
+        (Err(a), Err(b)) if b.number() < a.number() => y,
+        (Err(_), _) => x,
         (Ok(()), _) => y,
-        (_, Ok(())) => x,
-        (Err(a), Err(b)) => { if a.number() < b.number() { x } else { y } }
     }
 }
 
@@ -67,7 +67,7 @@ fn check_items(old: &[u8]) -> Result<(), Refusal>
     ensures { code_of result ≡ lowest item_code (items_in old.now) }
 {
     let mut outcome = Ok(());
-    for i in 0..old.len() / 24 {
+    for i in 0..old.len() / ITEM_BYTES {
         outcome = lower(outcome, check_item(get_item(old, i)));
     }
     outcome
@@ -115,11 +115,11 @@ fn check_apply(columns: Columns<'_>, old: &[u8], out: &[u8]) -> Result<(), Refus
     ensures { code_of result ≡ apply_code (items_in out.now) (said columns.entry) (items_in old.now) }
 {
     lower(check_entries(columns), check_items(old))?;
-    let have = old.len() / 24;
+    let have = old.len() / ITEM_BYTES;
     if !used_fits(columns, have) {
         return Err(Refusal::Mismatch);
     }
-    if !new_fits(columns, have, out.len() / 24) {
+    if !new_fits(columns, have, out.len() / ITEM_BYTES) {
         return Err(Refusal::Output);
     }
     Ok(())
@@ -171,7 +171,7 @@ fn write_items(columns: Columns<'_>, old: &[u8], out: &mut [u8]) -> usize
         from += takes(entry);
         row += gives(entry);
     }
-    let rest = old.len() / 24 - from;
+    let rest = old.len() / ITEM_BYTES - from;
     copy_items(old, from, out, row, rest);
     row + rest
 }

@@ -12,6 +12,9 @@ use span::ids::Id;
 use span::span::FugueSpan;
 use words::bytes_at;
 
+// The width of a row.
+pub const ITEM_BYTES: usize = 24;
+
 // A unit as its real id (own id if none) and its chunk.
 #[derive(Clone, Copy, Debug, PartialEq, Eq)]
 pub struct Item {
@@ -24,7 +27,7 @@ pub fn get_item(rows: &[u8], i: usize) -> Item
     requires { i * 24 + 24 ≤ length rows.now }
     ensures { result ≡ item_in rows.now i }
 {
-    let at = i * 24;
+    let at = i * ITEM_BYTES;
     Item {
         id: store::id_of(
             u64::from_le_bytes(bytes_at(rows, at)),
@@ -42,7 +45,7 @@ pub fn put_item(rows: &mut [u8], i: usize, item: Item)
     requires { i * 24 + 24 ≤ length rows.old }
     ensures { rows.new ≡ put (i * 24) (item_bytes item) rows.old }
 {
-    let at = i * 24;
+    let at = i * ITEM_BYTES;
     words::put(rows, at, item.id.peer.to_le_bytes());
     words::put_all(
         rows,

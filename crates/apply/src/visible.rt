@@ -10,7 +10,7 @@ ghost use Rattle.apply.specs.Apply.{items};
 ghost use Rattle.apply.specs.Items.{items_bytes};
 ghost use Rattle.apply.specs.Called.{Called, shown_items, shown_code, visible_code};
 
-use crate::item::put_units;
+use crate::item::{ITEM_BYTES, put_units};
 use rope::seek::{active_of, visible};
 use rope::state::check;
 use span::refusal::Refusal;
@@ -49,7 +49,7 @@ fn visible_rows(s: &[u8], n: usize, out: &mut [u8]) -> Result<usize, Refusal>
     ensures { Called (shown_code (rows n s.now) out.old) (shown_items (rows n s.now)) out.old result out.new }
 {
     let many = visible(s, n);
-    if out.len() / 24 < many {
+    if out.len() / ITEM_BYTES < many {
         return Err(Refusal::Output);
     }
     write_shown(s, n, out);
