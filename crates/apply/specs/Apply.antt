@@ -1,9 +1,8 @@
 -- The delta applier, on lists of units as real id (own id if none) and one-unit chunk, and its refusals 1, 2, 14, 13: the lowest over the whole input, 13 last.
 -- Assumes nothing.
-use Rattle.std.specs.Prelude.{ℕ, suc, ◌+◌, Bool, true, false, not, ◌&&◌, List, [], ◌∷◌, ◌++◌, map, length, take, drop, nat_le, ◌==◌}
+use Rattle.std.specs.Prelude.{ℕ, suc, ◌+◌, Bool, true, false, not, ◌&&◌, List, [], ◌∷◌, ◌++◌, map, length, take, drop, nat_le, ◌==◌, Some, None}
 use Rattle.span.specs.declared.chunk.RichtextChunk.{RichtextChunk}
 use Rattle.span.specs.declared.ids.Id.{Id}
-use Rattle.std.specs.Prelude as OptI
 use Rattle.span.specs.declared.status.Status.{Status}
 use Rattle.span.specs.Maybe.{OptStatus}
 use Rattle.span.specs.declared.span.FugueSpan.{FugueSpan}
@@ -13,7 +12,6 @@ use Rattle.span.specs.Span.{real_of}
 use Rattle.span.specs.Units.{tab}
 use Rattle.units.specs.Lists.{every, over}
 use Rattle.units.specs.Maybe.{OptLamport}
-use Rattle.std.specs.Prelude.{None as Nothing, Some as At}
 use Rattle.units.specs.declared.diff.Entry.TheVariants.{Retain, Delete, Insert}
 use Rattle.units.specs.Query.{visibles}
 use Rattle.units.specs.Codes.{unless, kept}
@@ -33,11 +31,11 @@ items l = map item_of (visibles l)
 
 -- a unit at the version compared with: its diff_status, where it has one, as its status
 abbrev pub or_status : OptStatus → Status → Status
-or_status OptI.None now = now
-or_status (OptI.Some d) now = d
+or_status None now = now
+or_status (Some d) now = d
 
 unfoldable pub new_unit : FugueSpan → FugueSpan
-new_unit u = with_state u (or_status u.diff_status u.status) OptI.None u.real_id
+new_unit u = with_state u (or_status u.diff_status u.status) None u.real_id
 
 -- the units of an Insert
 unfoldable pub item_at : RichtextChunk → Id → ℕ → Item
@@ -65,14 +63,14 @@ entry_formed (Known (Insert c i l)) = formed c
 
 -- 2: an id or a lamport past its end, the unknown peer in an Insert
 unfoldable pub lamport_fits : OptLamport → ℕ → Bool
-lamport_fits Nothing n = true
-lamport_fits (At lamport) n = nat_le (lamport + n) 4294967295
+lamport_fits None n = true
+lamport_fits (Some lamport) n = nat_le (lamport + n) 4294967295
 
 unfoldable pub entry_ids : Given → Bool
 entry_ids Strange = true
 entry_ids (Known (Retain n)) = true
 entry_ids (Known (Delete n)) = true
-entry_ids (Known (Insert c i l)) = room_opt (OptI.Some i) (len_of c) && lamport_fits l (len_of c)
+entry_ids (Known (Insert c i l)) = room_opt (Some i) (len_of c) && lamport_fits l (len_of c)
 
 -- 14: no known kind, or of length 0
 unfoldable pub entry_known : Given → Bool

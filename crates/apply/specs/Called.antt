@@ -20,7 +20,7 @@ pub record Allowed (es : List Given) (old : List Item) (room : ℕ) : Type 0 whe
   pub fits : used es ≤ length old
   pub holds : length (applied es old) * 24 ≤ room
 
--- a call with this number that writes these items: how many there are, or the number of the refusal; the output has them from its front on and keeps
+-- a call with this number that writes these items: how many there are, or the refusal; the output has them from its front on and keeps
 -- the rest, or if the call is refused is what it was
 pub record Called (code : ℕ) (new : List Item) (out : List ℕ) (r : ApplyAnswer) (out2 : List ℕ) : Type 0 where
   pub said : r ≡ answer Ok refused code (length new)

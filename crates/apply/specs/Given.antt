@@ -1,8 +1,7 @@
 -- Entries as columns of numbers say them: what each uses, gives and is refused for. Assumes nothing.
-use Rattle.std.specs.Prelude.{ℕ, ◌+◌, ◌-◌, ◌&&◌, List, [], ◌∷◌, length, take, if◌then◌else◌, nat_lt, slice_index, ◌==◌}
+use Rattle.std.specs.Prelude.{ℕ, ◌+◌, ◌-◌, ◌&&◌, List, [], ◌∷◌, length, take, if◌then◌else◌, nat_lt, slice_index, ◌==◌, Some, None}
 use Rattle.span.specs.declared.chunk.RichtextChunk.{RichtextChunk}
 use Rattle.span.specs.declared.ids.Id.{Id}
-use Rattle.std.specs.Prelude as OptI
 use Rattle.span.specs.declared.span.FugueSpan.{FugueSpan}
 use Rattle.span.specs.Chunk.{chunk, len_of, formed}
 use Rattle.span.specs.Status.{new_status}
@@ -12,7 +11,6 @@ use Rattle.span.specs.Units.{tab}
 use Rattle.store.specs.Row.{id_of}
 use Rattle.rope.specs.declared.diff.EntryNumbers.{EntryNumbers}
 use Rattle.units.specs.Maybe.{OptLamport}
-use Rattle.std.specs.Prelude.{None as Nothing, Some as At}
 use Rattle.units.specs.declared.diff.Entry.TheVariants.{Retain, Delete, Insert}
 use Rattle.units.specs.Codes.{unless}
 use Rattle.rope.specs.Columns.{numbers, least}
@@ -28,7 +26,7 @@ given_of w =
     if w.kind == 0 then Known (Retain w.a)
     else (if w.kind == 1 then Known (Delete w.a)
     else (if nat_lt 3 w.kind then Strange
-    else (if w.kind == 2 then insert_given w (At w.lamport) else insert_given w Nothing)))
+    else (if w.kind == 2 then insert_given w (Some w.lamport) else insert_given w None)))
 
 -- the entry in place i of the columns, and all of them: as many as in the shortest
 module _ (k a b p c l : List ℕ) where
@@ -64,11 +62,11 @@ bare_span i c =
     record {
       id = i;
       lamport = 0;
-      real_id = OptI.None;
+      real_id = None;
       status = new_status;
-      diff_status = OptI.None;
-      origin_left = OptI.None;
-      origin_right = OptI.None;
+      diff_status = None;
+      origin_left = None;
+      origin_right = None;
       content = c;
     }
 
@@ -79,7 +77,7 @@ new_len (g ∷ es) m = gives g + new_len es (m - takes g)
 
 -- what refuses an entry: 1, 2, 14, the lowest
 unfoldable pub insert_code : RichtextChunk → Id → OptLamport → ℕ
-insert_code c i l = unless (formed c) 1 (unless (room_opt (OptI.Some i) (len_of c) && lamport_fits l (len_of c)) 2 0)
+insert_code c i l = unless (formed c) 1 (unless (room_opt (Some i) (len_of c) && lamport_fits l (len_of c)) 2 0)
 
 -- 14 of a length 0
 abbrev pub len_code : ℕ → ℕ

@@ -1,11 +1,10 @@
 -- The Fugue tree of a set of units, and its walk, as 01 states them under "Tree". A unit with a parent right is a left child of it; otherwise
 -- a right child of its origin left, or of the root. Walk: left children, unit, right children; siblings by smaller peer, then counter.
 -- Assumes nothing.
-use Rattle.std.specs.Prelude.{ℕ, zero, suc, Bool, true, false, not, ◌&&◌, ◌||◌, List, [], ◌∷◌, ◌++◌, length, if◌then◌else◌, nat_lt, ◌==◌}
+use Rattle.std.specs.Prelude.{ℕ, zero, suc, Bool, true, false, not, ◌&&◌, ◌||◌, List, [], ◌∷◌, ◌++◌, length, if◌then◌else◌, nat_lt, ◌==◌, Some, None}
 use Rattle.std.specs.Int.Signed.{lt_z}
 use Rattle.span.specs.declared.ids.Id.{Id}
 use Rattle.span.specs.Maybe.{OptId}
-use Rattle.std.specs.Prelude.{None as Nothing, Some as At}
 use Rattle.span.specs.declared.span.FugueSpan.{FugueSpan}
 use Rattle.span.specs.Ids.{same_opt}
 use Rattle.units.specs.Lists.{keep_if}
@@ -13,7 +12,7 @@ use Rattle.units.specs.Place.{parent_right}
 
 -- a unit as others name it: its id, its origins
 abbrev pub ref : FugueSpan → OptId
-ref u = At u.id
+ref u = Some u.id
 
 abbrev pub ol : FugueSpan → OptId
 ol u = u.origin_left
@@ -26,8 +25,8 @@ unfoldable pub pr_of : List FugueSpan → FugueSpan → OptId
 pr_of us u = parent_right us (ol u) (or u)
 
 unfoldable pub is_none : OptId → Bool
-is_none Nothing = true
-is_none (At i) = false
+is_none None = true
+is_none (Some i) = false
 
 -- the children of r; of none, the root
 unfoldable pub left_kid : List FugueSpan → OptId → FugueSpan → Bool
@@ -49,7 +48,7 @@ walk_list (suc d) us s = walk_each (walk_list d us) us s
 
 -- the walk from the root: no path is longer than the units are many
 unfoldable pub walk : List FugueSpan → List FugueSpan
-walk us = walk_list (length us) us (keep_if (right_kid us Nothing) us)
+walk us = walk_list (length us) us (keep_if (right_kid us None) us)
 
 -- smaller peer, then counter
 unfoldable pub id_before : Id → Id → Bool

@@ -1,9 +1,8 @@
 -- What a version shows. A unit's status at a version depends on its id, the version and the deletes, never on its old status. Assumes nothing.
-use Rattle.std.specs.Prelude.{ℕ, suc, Bool, not, ◌&&◌, List, [], ◌∷◌, map, pos, ◌+ℤ◌, if◌then◌else◌, ◌==◌}
+use Rattle.std.specs.Prelude.{ℕ, suc, Bool, not, ◌&&◌, List, [], ◌∷◌, map, pos, ◌+ℤ◌, if◌then◌else◌, ◌==◌, Some, None}
 use Rattle.std.specs.Int.Signed.{le_z, lt_z}
 use Rattle.span.specs.declared.ids.Id.{Id}
 use Rattle.span.specs.declared.status.Status.{Status}
-use Rattle.std.specs.Prelude.{None as Nothing, Some as Is}
 use Rattle.span.specs.declared.span.FugueSpan.{FugueSpan}
 use Rattle.span.specs.Ids.{inc_id, same_id}
 use Rattle.span.specs.Status.{status}
@@ -45,7 +44,7 @@ status_at v held i = status (not (in_version v i)) (pos (deletes_in v held i))
 
 -- a unit at a version, with no diff_status
 unfoldable pub unit_at : Version → List Held → FugueSpan → FugueSpan
-unit_at v held u = with_state u (status_at v held u.id) Nothing u.real_id
+unit_at v held u = with_state u (status_at v held u.id) None u.real_id
 
 -- the units at a version: statuses alone change, the order stays
 unfoldable pub units_at : Version → History → List FugueSpan
@@ -57,7 +56,7 @@ checkout v h = record { placeholder = h.placeholder; list = units_at v h; held =
 
 -- a unit with a version as status and another as diff_status
 unfoldable pub unit_between : Version → Version → List Held → FugueSpan → FugueSpan
-unit_between a b held u = with_state u (status_at a held u.id) (Is (status_at b held u.id)) u.real_id
+unit_between a b held u = with_state u (status_at a held u.id) (Some (status_at b held u.id)) u.real_id
 
 unfoldable pub units_between : Version → Version → History → List FugueSpan
 units_between a b h = map (unit_between a b h.held) h.list

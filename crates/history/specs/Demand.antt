@@ -1,9 +1,8 @@
 -- Demand 3 in its own words: a set of edits, an arrival order of it, and what is promised of every such order. The theorem is proofs/Demand. Assumes nothing.
-use Rattle.std.specs.Prelude.{ℕ, suc, ◌+◌, ◌<◌, ◌≤◌, ◌≡◌, Bool, true, ◌&&◌, pos, length, if◌then◌else◌, nat_lt, ◌==◌}
+use Rattle.std.specs.Prelude.{ℕ, suc, ◌+◌, ◌<◌, ◌≤◌, ◌≡◌, Bool, true, ◌&&◌, pos, length, if◌then◌else◌, nat_lt, ◌==◌, Some, None}
 use mathlib.Core.List.{List, [], ◌∷◌, map, Memᴰ}
 use Rattle.std.specs.Int.Signed.{le_z}
 use Rattle.span.specs.Maybe.{OptId}
-use Rattle.std.specs.Prelude.{None as Nothing, Some as At}
 use Rattle.span.specs.declared.span.FugueSpan.{FugueSpan}
 use Rattle.span.specs.Ids.{UNKNOWN_PEER, room_opt}
 use Rattle.span.specs.Units.{expand}
@@ -51,7 +50,7 @@ counted v = every (λ (k : Count). le_z (pos 1) k.many) v
 pub record WellFormedSet (S : List Edit) : Type 0 where
   -- every edit is well formed: refusals 1 and 2 find nothing
   pub formed : (e : Edit) → InSet e S → act_formed e.act ≡ true
-  pub ids : (e : Edit) → InSet e S → room_opt (At e.id) (size e) && act_ids e.act ≡ true
+  pub ids : (e : Edit) → InSet e S → room_opt (Some e.id) (size e) && act_ids e.act ≡ true
   -- each office's ids run on from 0, none twice
   pub run_on : (e : Edit) → InSet e S → (i : ℕ) → i < first_of e → IdOf S e.id.peer i
   pub once : (e f : Edit) → InSet e S → InSet f S → (p i : ℕ) → Uses e p i → Uses f p i → e ≡ f
@@ -125,7 +124,7 @@ whole_of (e ∷ S) = add_count e.id.peer (size e) (whole_of S)
 
 -- real ids of placeholder units are excepted
 unfoldable pub real_plain : FugueSpan → OptId
-real_plain u = if u.id.peer == UNKNOWN_PEER then Nothing else u.real_id
+real_plain u = if u.id.peer == UNKNOWN_PEER then None else u.real_id
 
 unfoldable pub no_real : FugueSpan → FugueSpan
 no_real u = with_state u u.status u.diff_status (real_plain u)

@@ -1,5 +1,5 @@
 -- Refusal numbers of the history's calls, computed on small inputs: each number that small inputs can reach, and the lowest where several apply.
-use Rattle.std.specs.Prelude.{ℕ, ◌≡◌, refl, false, List, [], ◌∷◌, pos, negsuc}
+use Rattle.std.specs.Prelude.{ℕ, ◌≡◌, refl, false, List, [], ◌∷◌, pos, negsuc, Some}
 use Rattle.span.specs.declared.ids.Id.{Id}
 use Rattle.span.specs.Chunk.{chunk}
 use Rattle.span.specs.Ids.{id, UNKNOWN_PEER}
@@ -9,7 +9,6 @@ use Rattle.units.specs.declared.diff.Entry.TheVariants as D
 use Rattle.std.specs.Prelude.{None}
 use Rattle.history.specs.Edit.{Version, Insert, Edit, History}
 use Rattle.apply.specs.declared.item.Item.{Item}
-use Rattle.std.specs.Prelude.{Some as Known, None as Strange}
 use Rattle.history.specs.Apply.{apply_code}
 use Rattle.history.specs.Codes.{arrive_code, checkout_code, checkout_of, delta_code}
 use Rattle.history.specs.Open.{history_open}
@@ -79,11 +78,11 @@ pub record Refusals : Type 0 where
   pub units15 : arrive_code 65536 65536 (record { placeholder = 1; list = h.list; held = h.held }) (del 0 1 3 0 false (u 1 0) []) ≡ 15
   pub targets15 : arrive_code 65536 65536 (record { placeholder = 0; list = h.list; held = [] }) (del 0 1 3 0 false (u 1 0) []) ≡ 15
   -- the applier: the lowest number over the whole input
-  pub entry1 : apply_code [] (Known (Retain 9) ∷ Known (D.Insert (chunk 5 5) (u 1 0) None) ∷ []) one_left ≡ 1
-  pub entry2 : apply_code [] (Strange ∷ Known (D.Insert (chunk 5 6) (id UNKNOWN_PEER (pos 0)) None) ∷ []) one_left ≡ 2
-  pub past14 : apply_code [] (Known (Retain 1) ∷ Known (D.Delete 1) ∷ []) one_left ≡ 14
-  pub kind14 : apply_code [] (Strange ∷ []) one_left ≡ 14
-  pub empty14 : apply_code [] (Known (Retain 0) ∷ []) one_left ≡ 14
+  pub entry1 : apply_code [] (Some (Retain 9) ∷ Some (D.Insert (chunk 5 5) (u 1 0) None) ∷ []) one_left ≡ 1
+  pub entry2 : apply_code [] (None ∷ Some (D.Insert (chunk 5 6) (id UNKNOWN_PEER (pos 0)) None) ∷ []) one_left ≡ 2
+  pub past14 : apply_code [] (Some (Retain 1) ∷ Some (D.Delete 1) ∷ []) one_left ≡ 14
+  pub kind14 : apply_code [] (None ∷ []) one_left ≡ 14
+  pub empty14 : apply_code [] (Some (Retain 0) ∷ []) one_left ≡ 14
   pub long14 : apply_code [] [] (record { id = u 1 0; content = chunk 0 2 } ∷ []) ≡ 14
   pub out13 : apply_code [] [] one_left ≡ 13
 

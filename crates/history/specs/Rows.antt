@@ -1,9 +1,8 @@
 -- 01's ten rows, and the four that our reading of it adds, under one checked claim: by arrivals in every order that is accepted, and by the tree built from
 -- the set alone, where the row is of placement.
-use Rattle.std.specs.Prelude.{ℕ, zero, suc, ◌≡◌, refl, true, false, List, [], ◌∷◌, ◌++◌, map, ℤ, pos, if◌then◌else◌, ◌==◌}
+use Rattle.std.specs.Prelude.{ℕ, zero, suc, ◌≡◌, refl, true, false, List, [], ◌∷◌, ◌++◌, map, ℤ, pos, if◌then◌else◌, ◌==◌, None}
 use Rattle.span.specs.declared.ids.Id.{Id}
 use Rattle.span.specs.Maybe.{OptId}
-use Rattle.std.specs.Prelude.{None as Nothing, Some as At}
 use Rattle.span.specs.declared.span.FugueSpan.{FugueSpan}
 use Rattle.span.specs.Chunk.{chunk, len_of}
 use Rattle.span.specs.Units.{tab, expand}
@@ -108,7 +107,7 @@ pub record Rows : Type 0 where
   pub p7 : spans (run (new 0) P7) ≡ (u 1 0, 1, pos 0) ∷ (u 1 1, 2, pos 1) ∷ (u 1 3, 2, pos 0) ∷ []
   pub p7_shown : shown_ids (run (new 0) P7) ≡ u 1 0 ∷ u 1 3 ∷ u 1 4 ∷ []
   pub p8 : spans (run (new 0) P8) ≡ (u 1 0, 4, pos 1) ∷ (u 1 4, 1, pos 0) ∷ []
-  pub p9 : reals (run (new 4) (del 2 9 0 1 false (u 9 40) [] ∷ [])) ≡ Nothing ∷ At (u 9 40) ∷ At (u 9 41) ∷ Nothing ∷ []
+  pub p9 : reals (run (new 4) (del 2 9 0 1 false (u 9 40) [] ∷ [])) ≡ None ∷ Some (u 9 40) ∷ Some (u 9 41) ∷ None ∷ []
   pub p9_reversed : (run (new 4) (del 2 9 0 1 true (u 9 40) [] ∷ [])).list ≡ (run (new 4) (del 2 9 0 1 false (u 9 40) [] ∷ [])).list
   pub p10 : delta_in 2 P10 (1 ∶ 5 ∷ []) (1 ∶ 5 ∷ 2 ∶ 2 ∷ []) ≡ Retain 1 ∷ D.Delete 2 ∷ []
   pub p11 : delta_in 2 P10 (1 ∶ 5 ∷ 2 ∶ 2 ∷ []) (1 ∶ 5 ∷ []) ≡ Retain 1 ∷ D.Insert (chunk 1 3) (u 1 1) (Some 1) ∷ []

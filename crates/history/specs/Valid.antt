@@ -1,6 +1,5 @@
 -- What refuses an edit by the edits held (1, 2, 4, 5, 6, 7), and a well-formed history (15). Assumes nothing.
-use Rattle.std.specs.Prelude.{ℕ, suc, ◌+◌, Bool, true, false, not, ◌&&◌, ◌||◌, List, [], ◌∷◌, ◌++◌, map, pos, length, if◌then◌else◌, nat_le, ◌==◌}
-use Rattle.std.specs.Prelude.{Some as At}
+use Rattle.std.specs.Prelude.{ℕ, suc, ◌+◌, Bool, true, false, not, ◌&&◌, ◌||◌, List, [], ◌∷◌, ◌++◌, map, pos, length, if◌then◌else◌, nat_le, ◌==◌, Some}
 use Rattle.span.specs.declared.span.FugueSpan.{FugueSpan}
 use Rattle.span.specs.Chunk.{formed, len_of}
 use Rattle.span.specs.Status.{eq_z}
@@ -26,7 +25,7 @@ act_formed (Delete n reversed target) = not (n == 0)
 -- 2: lamport and target start in range, the target's peer known
 abbrev pub act_ids : Act → Bool
 act_ids (Insert lamport c) = nat_le (lamport + len_of c) 4294967295
-act_ids (Delete n reversed target) = room_opt (At target) n
+act_ids (Delete n reversed target) = room_opt (Some target) n
 
 -- 4: the peers that have edits
 unfoldable pub has_peer : List Held → ℕ → Bool
@@ -43,7 +42,7 @@ own_count e = eq_z (pos (count_of e.context e.id.peer)) e.id.counter
 unfoldable pub edit_code : List Held → Edit → ℕ
 edit_code held e =
     unless (act_formed e.act) 1
-    (unless (room_opt (At e.id) (size e) && act_ids e.act) 2
+    (unless (room_opt (Some e.id) (size e) && act_ids e.act) 2
     (unless (has_peer held e.id.peer || not (nat_le PEERS (peer_count held))) 4
     (unless (eq_z e.id.counter (pos (held_count held e.id.peer))) 5
     (unless (named held e.context) 6

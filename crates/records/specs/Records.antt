@@ -15,7 +15,7 @@ use Rattle.rope.specs.Columns.{entry_numbers, get_diff_code}
 abbrev pub records : List Entry → List EntryNumbers
 records es = map entry_numbers es
 
--- how many entries there are, or the number of the refusal, in a room of so many records
+-- how many entries there are, or the refusal, in a room of so many records
 abbrev pub answer_of : ℕ → List ℕ → DiffAnswer
 answer_of room s = answer Ok refused (get_diff_code room s) (length (entries (spans_of s)))
 

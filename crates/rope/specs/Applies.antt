@@ -1,6 +1,6 @@
 -- A change that goes through a list in place: what it asks of the list, and what a few waiting rows become as pieces are pushed on to them.
 -- Assumes nothing.
-use Rattle.std.specs.Prelude.{ℕ, ◌+◌, ◌-◌, ◌*◌, ◌≤◌, ◌<◌, ◌≡◌, true, List, [], ◌∷◌, ◌++◌, pos, length, take, drop}
+use Rattle.std.specs.Prelude.{ℕ, ◌+◌, ◌-◌, ◌*◌, ◌≤◌, ◌<◌, ◌≡◌, true, List, [], ◌∷◌, ◌++◌, pos, length, take, drop, Some}
 use Rattle.span.specs.declared.ids.Id.{Id}
 use Rattle.span.specs.Ids.{room_opt}
 use Rattle.rope.specs.declared.change.Update.{Update}
@@ -9,7 +9,6 @@ use Rattle.rope.specs.Spans.{AllOk}
 use Rattle.units.specs.Change.{delete_units, update_units}
 use Rattle.units.specs.Codes.{counts_fit}
 use Rattle.span.specs.declared.span.FugueSpan.{FugueSpan}
-use Rattle.std.specs.Prelude.{Some as At}
 use Rattle.span.specs.Span.{span_code, part_span}
 use Rattle.span.specs.Units.{expand, Joined, join}
 use Rattle.store.specs.Row.{rows}
@@ -71,7 +70,7 @@ pub record Deletes (n at len : ℕ) (start : Id) (s : List ℕ) : Type 0 where
   pub long : n * 72 ≤ length s
   pub each : AllOk (rows n s)
   pub fits : at + len ≤ 4294967295
-  pub ids : room_opt (At start) len ≡ true
+  pub ids : room_opt (Some start) len ≡ true
   pub room : length (join (delete_units at len start (expand (rows n s)))) * 72 ≤ length s
 
 -- an update of a range of counters, in well formed rows

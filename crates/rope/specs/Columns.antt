@@ -10,7 +10,6 @@ use Rattle.span.specs.Span.{len_span, diff_of}
 use Rattle.span.specs.Units.{expand}
 use Rattle.store.specs.Row.{rows, bits32}
 use Rattle.rope.specs.Maybe.{Change}
-use Rattle.std.specs.Prelude.{None as Same, Some as Is}
 use Rattle.rope.specs.declared.diff.Step.{Step}
 use Rattle.rope.specs.declared.diff.EntryNumbers.{EntryNumbers}
 use Rattle.rope.specs.Maybe.{DiffAnswer}
@@ -19,7 +18,6 @@ use Rattle.span.specs.Refusal.{refused, number_of}
 use Rattle.units.specs.Lists.{every, over}
 use Rattle.units.specs.Store.{spans_of, is_state}
 use Rattle.units.specs.Maybe.{OptLamport}
-use Rattle.std.specs.Prelude.{None as Nothing, Some as At}
 use Rattle.units.specs.declared.diff.Entry.{Entry}
 use Rattle.units.specs.declared.diff.Entry.TheVariants.{Retain, Delete, Insert}
 use Rattle.units.specs.Delta.{insert_of_span, insertable, entries_from, entries}
@@ -30,9 +28,9 @@ use Rattle.rope.specs.Spans.{Stored}
 
 -- what a span does to the delta
 abbrev pub change_by : DiffStatus → FugueSpan → Change
-change_by NotChanged s = Same
-change_by Created s = Is (insert_of_span s)
-change_by Deleted s = Is (Delete (len_span s))
+change_by NotChanged s = None
+change_by Created s = Some (insert_of_span s)
+change_by Deleted s = Some (Delete (len_span s))
 
 unfoldable pub change_of : FugueSpan → Change
 change_of s = change_by (diff_of s) s
@@ -66,8 +64,8 @@ abbrev pub numbers : ℕ → ℕ → ℕ → ℕ → ℕ → ℕ → EntryNumber
 numbers k a b p c l = record { kind = k; a = a; b = b; peer = p; counter = c; lamport = l }
 
 abbrev pub insert_numbers : RichtextChunk → Id → OptLamport → EntryNumbers
-insert_numbers c i Nothing = numbers 3 c.start c.end i.peer (bits32 i.counter) 0
-insert_numbers c i (At l) = numbers 2 c.start c.end i.peer (bits32 i.counter) l
+insert_numbers c i None = numbers 3 c.start c.end i.peer (bits32 i.counter) 0
+insert_numbers c i (Some l) = numbers 2 c.start c.end i.peer (bits32 i.counter) l
 
 -- an entry as numbers
 unfoldable pub entry_numbers : Entry → EntryNumbers

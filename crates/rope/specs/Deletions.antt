@@ -1,7 +1,6 @@
 -- What a delete answers and leaves, on the lent bytes of a store and of an output. Assumes nothing.
-use Rattle.std.specs.Prelude.{ℕ, ◌+◌, ◌/◌, ◌≤◌, ◌≡◌, Bool, List, length, drop, nat_le}
+use Rattle.std.specs.Prelude.{ℕ, ◌+◌, ◌/◌, ◌≤◌, ◌≡◌, Bool, List, length, drop, nat_le, Some, Ok}
 use Rattle.span.specs.declared.ids.Id.{Id}
-use Rattle.std.specs.Prelude.{Some as At}
 use Rattle.span.specs.declared.span.FugueSpan.{FugueSpan}
 use Rattle.span.specs.Answer.{answer}
 use Rattle.span.specs.Ids.{room_opt}
@@ -9,8 +8,7 @@ use Rattle.span.specs.Units.{expand, join}
 use Rattle.store.specs.Row.{rows}
 use Rattle.rope.specs.declared.change.Delete.{Delete}
 use Rattle.rope.specs.Maybe.{DeleteAnswer}
-use Rattle.std.specs.Prelude.{Ok as Done}
-use Rattle.span.specs.Refusal.{refused as Refused}
+use Rattle.span.specs.Refusal.{refused}
 use Rattle.units.specs.Limits.{fits}
 use Rattle.units.specs.Place.{shown}
 use Rattle.units.specs.Store.{room, spans_of, is_state}
@@ -34,7 +32,7 @@ delete_list s at len start = join (delete_units at len start (expand (spans_of s
 -- what refuses the delete of some units in a well formed list, with room for `most` rows and an output of `places` rows
 unfoldable pub delete_rest : ℕ → ℕ → List FugueSpan → Delete → Bool → ℕ
 delete_rest most places l d reversed =
-    unless (room_opt (At d.start) d.len) 2
+    unless (room_opt (Some d.start) d.len) 2
     (unless (nat_le (d.at + d.len) (shown (expand l))) 8
     (unless (fits most (join (delete_units d.at d.len d.start (expand l)))) 10
     (unless (nat_le (length (pieces l d.at d.len reversed)) places) 13 0)))
@@ -42,7 +40,7 @@ delete_rest most places l d reversed =
 -- A delete whose number is `code`, whose list is `l` and whose removed pieces are `ps` answers r, and leaves t of the store s and p of the
 -- output o. A refused one keeps every byte of both; a done one keeps the output past its last entry.
 pub record Deleted (code : ℕ) (l ps : List FugueSpan) (r : DeleteAnswer) (s o t p : List ℕ) : Type 0 where
-  pub answered : r ≡ answer Done Refused code (length ps)
+  pub answered : r ≡ answer Ok refused code (length ps)
   pub store : EditedIn code l code s t
   pub output : code ≡ 0 → Listed ps (length ps) o p
   pub kept : (code ≡ 0 → ⊥) → p ≡ o

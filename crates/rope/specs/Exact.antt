@@ -1,9 +1,8 @@
 -- The rows that an update would leave, counted piece by piece. The count that it works on stands apart from the rest of a piece, since the
 -- exact sum may be no i16. Assumes nothing.
-use Rattle.std.specs.Prelude.{◌+◌, Bool, ◌&&◌, List, [], ◌∷◌, pos, if◌then◌else◌, nat_lt}
+use Rattle.std.specs.Prelude.{◌+◌, Bool, ◌&&◌, List, [], ◌∷◌, pos, if◌then◌else◌, nat_lt, Some, None}
 use Rattle.span.specs.declared.status.Status.{Status}
 use Rattle.span.specs.Maybe.{OptStatus}
-use Rattle.std.specs.Prelude as Opt
 use Rattle.span.specs.declared.span.FugueSpan.{FugueSpan}
 use Rattle.span.specs.Status.{status, eq_z}
 use Rattle.span.specs.Span.{joins_span}
@@ -16,8 +15,8 @@ abbrev pub uncounted : Status → Status
 uncounted s = status s.future (pos 0)
 
 abbrev pub uncounted_diff : OptStatus → OptStatus
-uncounted_diff Opt.None = Opt.None
-uncounted_diff (Opt.Some d) = Opt.Some (uncounted d)
+uncounted_diff None = None
+uncounted_diff (Some d) = Some (uncounted d)
 
 -- a span with a count of 0 in the status that an update works on
 unfoldable pub bare : Bool → FugueSpan → FugueSpan

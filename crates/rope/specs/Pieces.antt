@@ -1,7 +1,6 @@
 -- A change, span by span: the units of a span that change, the pieces that it is cut into, and what is left for the spans after.
 -- Assumes nothing.
-use Rattle.std.specs.Prelude.{ℕ, ◌+◌, ◌-◌, ◌≤◌, min, ◌≡◌, true, List, [], ◌∷◌, ◌++◌, ℤ, pos, negsuc, ◌+ℤ◌, if◌then◌else◌, nat_lt, ◌==◌}
-use Rattle.std.specs.Prelude.{Some as At}
+use Rattle.std.specs.Prelude.{ℕ, ◌+◌, ◌-◌, ◌≤◌, min, ◌≡◌, true, List, [], ◌∷◌, ◌++◌, ℤ, pos, negsuc, ◌+ℤ◌, if◌then◌else◌, nat_lt, ◌==◌, Some}
 use Rattle.span.specs.declared.span.FugueSpan.{FugueSpan}
 use Rattle.span.specs.Ids.{room_opt, inc_id}
 use Rattle.span.specs.Status.{activated, in_i16}
@@ -33,7 +32,7 @@ delete_after d s =
 -- its positions fit u32, and there is a real id for each unit that it takes
 pub record CanDelete (d : Delete) : Type 0 where
   pub fits : d.at + d.len ≤ 4294967295
-  pub room : room_opt (At d.start) d.len ≡ true
+  pub room : room_opt (Some d.start) d.len ≡ true
 
 -- ---- an update
 

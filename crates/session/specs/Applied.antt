@@ -1,5 +1,5 @@
 -- `applied A B`: the visible list at A with the delta to B applied to it by the applier, the list and the new one in rows of items
-use Rattle.std.specs.Prelude.{◌≡◌, ℕ, ◌*◌, ◌/◌, List, ◌++◌, length, take, drop, ◌==◌, nat_le, if◌then◌else◌}
+use Rattle.std.specs.Prelude.{◌≡◌, ℕ, ◌*◌, ◌/◌, List, ◌++◌, length, take, drop, ◌==◌, nat_le, if◌then◌else◌, Ok}
 use Rattle.words.specs.Le.{put}
 use Rattle.span.specs.Answer.{answer}
 use Rattle.units.specs.declared.diff.Entry.{Entry}
@@ -10,8 +10,7 @@ use Rattle.units.specs.Delta.{entries}
 use Rattle.rope.specs.Columns.{column}
 use Rattle.apply.specs.declared.item.Item.{Item}
 use Rattle.apply.specs.Maybe.{ApplyAnswer}
-use Rattle.std.specs.Prelude.{Ok as Done}
-use Rattle.span.specs.Refusal.{refused as Refused}
+use Rattle.span.specs.Refusal.{refused}
 use Rattle.apply.specs.Items.{items_bytes}
 use Rattle.apply.specs.Called.{Called, delta_items, delta_code, shown_items}
 use Rattle.tracker.specs.Entries.{version_of, Leaves, checked_out}
@@ -80,5 +79,5 @@ module _ (v w s t e out : List ℕ) where
         out' ≡ kept (applied_code row_room v w s t e s' front) (put 0 (items_bytes (new_items (told_entries row_room v w s t e) s')) front) front
         ++ drop (length out / 72 * 24) out
     pub says :
-        Says at (answer_lines (answer Done Refused (applied_code row_room v w s t e s' front) (length (new_items (told_entries row_room v w s t e) s'))) out')
+        Says at (answer_lines (answer Ok refused (applied_code row_room v w s t e s' front) (length (new_items (told_entries row_room v w s t e) s'))) out')
         text r text'

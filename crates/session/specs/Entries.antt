@@ -1,5 +1,5 @@
 -- The answers of deltas: a line for each entry, and for each item of the list that one is applied to (docs/SCRIPT.md)
-use Rattle.std.specs.Prelude.{ℕ, ◌/◌, List, [], ◌∷◌, ◌++◌, map, length, ◌==◌, nat_lt, slice_index, if◌then◌else◌}
+use Rattle.std.specs.Prelude.{ℕ, ◌/◌, List, [], ◌∷◌, ◌++◌, map, length, ◌==◌, nat_lt, slice_index, if◌then◌else◌, Ok}
 use Rattle.text.specs.Ascii.{ascii}
 use Rattle.span.specs.Chunk.{chunk}
 use Rattle.store.specs.Row.{id_of}
@@ -10,7 +10,7 @@ use Rattle.units.specs.Delta.{entries}
 use Rattle.rope.specs.Columns.{numbers, entry_numbers, get_diff_code}
 use Rattle.apply.specs.declared.item.Item.{Item}
 use Rattle.apply.specs.Maybe.{ApplyAnswer}
-use Rattle.std.specs.Prelude.{Ok as Done, Err}
+use Rattle.std.specs.Prelude.{Err}
 use Rattle.span.specs.Refusal.{number_of}
 use Rattle.apply.specs.Items.{item_in}
 use Rattle.script.specs.Print.{number_text, id_text, chunk_text, head_line, item_line}
@@ -72,7 +72,7 @@ listed_lines out n = head_line (ascii "list") n ∷ up_to (item_at out) n
 
 -- the applier's answer
 unfoldable pub answer_lines : ApplyAnswer → List ℕ → List (List ℕ)
-answer_lines (Done n) out = listed_lines out n
+answer_lines (Ok n) out = listed_lines out n
 answer_lines (Err e) out = refused_lines (number_of e)
 
 -- list N, and N items

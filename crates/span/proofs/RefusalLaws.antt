@@ -1,5 +1,5 @@
 -- Refusals, their numbers, and what an outcome's number tells. Assumes nothing.
-use Prim.Native.Nat.{ℕ}
+use Prim.Native.Nat.{ℕ, zero, suc, ◌≤◌}
 use mathlib.Core.Path.{◌≡◌, refl, sym, ap, ◌∙◌}
 use native.Mathlib.Omega.{arith}
 use Rattle.std.specs.Prelude.{Result, Ok, Err}
@@ -47,6 +47,27 @@ refusal_back Refuse.NoRealId = refl
 refusal_back Refuse.Output = refl
 refusal_back Refuse.Mismatch = refl
 refusal_back Refuse.Store = refl
+
+-- and a number from 1 to 15 is that of its refusal
+pub number_back : (n : ℕ) → 1 ≤ n → n ≤ 15 → number_of (refusal_of n) ≡ n
+unfolding refusal_of
+number_back zero h k = absurd (omega (arith, h))
+number_back (suc zero) h k = refl
+number_back (suc (suc zero)) h k = refl
+number_back (suc (suc (suc zero))) h k = refl
+number_back (suc (suc (suc (suc zero)))) h k = refl
+number_back (suc (suc (suc (suc (suc zero))))) h k = refl
+number_back (suc (suc (suc (suc (suc (suc zero)))))) h k = refl
+number_back (suc (suc (suc (suc (suc (suc (suc zero))))))) h k = refl
+number_back (suc (suc (suc (suc (suc (suc (suc (suc zero)))))))) h k = refl
+number_back (suc (suc (suc (suc (suc (suc (suc (suc (suc zero))))))))) h k = refl
+number_back (suc (suc (suc (suc (suc (suc (suc (suc (suc (suc zero)))))))))) h k = refl
+number_back (suc (suc (suc (suc (suc (suc (suc (suc (suc (suc (suc zero))))))))))) h k = refl
+number_back (suc (suc (suc (suc (suc (suc (suc (suc (suc (suc (suc (suc zero)))))))))))) h k = refl
+number_back (suc (suc (suc (suc (suc (suc (suc (suc (suc (suc (suc (suc (suc zero))))))))))))) h k = refl
+number_back (suc (suc (suc (suc (suc (suc (suc (suc (suc (suc (suc (suc (suc (suc zero)))))))))))))) h k = refl
+number_back (suc (suc (suc (suc (suc (suc (suc (suc (suc (suc (suc (suc (suc (suc (suc zero))))))))))))))) h k = refl
+number_back (suc (suc (suc (suc (suc (suc (suc (suc (suc (suc (suc (suc (suc (suc (suc (suc n)))))))))))))))) h k = absurd (omega (arith, k))
 
 -- two refusals with one number are one
 pub number_of-injective : (d e : Refusal) → number_of d ≡ number_of e → d ≡ e

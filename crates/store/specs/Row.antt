@@ -2,16 +2,14 @@
 -- 0 peer, 8 real peer, 16 left peer, 24 right peer (u64); 32 counter, 36 lamport, 40 real counter, 44 left counter, 48 right counter,
 -- 52 start, 56 end, 60 both times (i16, i16), 64 flags (u32); 68 spare. Signed numbers stand by their two's complement bits.
 -- Flags from the lowest bit: future, diff is there, its future, real id is there, origin left, origin right.
-use Rattle.std.specs.Prelude.{ℕ, zero, suc, ◌+◌, ◌-◌, ◌*◌, ◌/◌, ◌%◌, ◌^◌, ◌<◌, ◌≤◌, Bool, true, false, List, [], ◌∷◌, ◌++◌, ◌≡◌, length, set, take, drop, ℤ, pos, ◌==◌}
+use Rattle.std.specs.Prelude.{ℕ, zero, suc, ◌+◌, ◌-◌, ◌*◌, ◌/◌, ◌%◌, ◌^◌, ◌<◌, ◌≤◌, Bool, true, false, List, [], ◌∷◌, ◌++◌, ◌≡◌, length, set, take, drop, ℤ, pos, ◌==◌, Some, None}
 use Rattle.std.specs.Int.{w16, w32}
 use Rattle.std.proofs.Common.{SFits, to_z, of_z}
 use Rattle.words.specs.Le.{le, bytes_of, put}
 use Rattle.span.specs.declared.ids.Id.{Id}
 use Rattle.span.specs.Maybe.{OptId}
-use Rattle.std.specs.Prelude.{None as Nothing, Some as At}
 use Rattle.span.specs.declared.status.Status.{Status}
 use Rattle.span.specs.Maybe.{OptStatus}
-use Rattle.std.specs.Prelude as Opt
 use Rattle.span.specs.declared.span.FugueSpan.{FugueSpan}
 use Rattle.store.specs.declared.Words.{Words}
 
@@ -30,12 +28,12 @@ abbrev pub status_of : Bool → ℕ → Status
 status_of f w = record { future = f; delete_times = to_z w16 w }
 
 abbrev pub opt_of : Bool → ℕ → ℕ → OptId
-opt_of false p w = Nothing
-opt_of true p w = At (id_of p w)
+opt_of false p w = None
+opt_of true p w = Some (id_of p w)
 
 abbrev pub maybe_of : Bool → Bool → ℕ → OptStatus
-maybe_of false f w = Opt.None
-maybe_of true f w = Opt.Some (status_of f w)
+maybe_of false f w = None
+maybe_of true f w = Some (status_of f w)
 
 abbrev pub low_of : ℕ → Bool
 low_of w = (w % 2) == 1
@@ -83,28 +81,28 @@ row_at s b = span_of (words_at s b)
 -- ---- writing
 
 abbrev pub peer_of : OptId → ℕ
-peer_of Nothing = 0
-peer_of (At i) = i.peer
+peer_of None = 0
+peer_of (Some i) = i.peer
 
 abbrev pub ctr_of : OptId → ℤ
-ctr_of Nothing = pos 0
-ctr_of (At i) = i.counter
+ctr_of None = pos 0
+ctr_of (Some i) = i.counter
 
 abbrev pub has_of : OptId → Bool
-has_of Nothing = false
-has_of (At i) = true
+has_of None = false
+has_of (Some i) = true
 
 abbrev pub has_status : OptStatus → Bool
-has_status Opt.None = false
-has_status (Opt.Some t) = true
+has_status None = false
+has_status (Some t) = true
 
 abbrev pub future_of : OptStatus → Bool
-future_of Opt.None = false
-future_of (Opt.Some t) = t.future
+future_of None = false
+future_of (Some t) = t.future
 
 abbrev pub times_of : OptStatus → ℤ
-times_of Opt.None = pos 0
-times_of (Opt.Some t) = t.delete_times
+times_of None = pos 0
+times_of (Some t) = t.delete_times
 
 abbrev pub bit_of : Bool → ℕ
 bit_of true = 1

@@ -189,15 +189,29 @@ pub fn span_of(w: Words) -> FugueSpan
 
 // The word of flags: the lowest bit is the first.
 #[tactic(auto, unfolding(crate::specs::Row::flags_of))]
+pub fn flags(a: bool, b: bool, c: bool, d: bool, e: bool, f: bool) -> u32
+    ensures { result ≡ flags_of a b c d e f }
+{
+    u32::from(a)
+        + 2 * u32::from(b)
+        + 4 * u32::from(c)
+        + 8 * u32::from(d)
+        + 16 * u32::from(e)
+        + 32 * u32::from(f)
+}
+
+// The flags of a span: its status, what it may have, and the status that it may have.
 pub fn span_flags(x: FugueSpan) -> u32
     ensures { result ≡ flags_of x.status.future (has_status x.diff_status) (future_of x.diff_status) (has_of x.real_id) (has_of x.origin_left) (has_of x.origin_right) }
 {
-    u32::from(x.status.future)
-        + 2 * u32::from(x.diff_status.is_some())
-        + 4 * u32::from(x.diff_status.is_some_and(|status| status.future))
-        + 8 * u32::from(x.real_id.is_some())
-        + 16 * u32::from(x.origin_left.is_some())
-        + 32 * u32::from(x.origin_right.is_some())
+    flags(
+        x.status.future,
+        x.diff_status.is_some(),
+        x.diff_status.is_some_and(|status| status.future),
+        x.real_id.is_some(),
+        x.origin_left.is_some(),
+        x.origin_right.is_some(),
+    )
 }
 
 #[tactic(auto, unfolding(crate::specs::Row::words_of))]

@@ -1,8 +1,7 @@
 -- The arrival of an edit, step by step: what refuses an insert or a delete at its context, and what each step of an accepted one asks and leaves.
 -- Assumes nothing.
-use Rattle.std.specs.Prelude.{ℕ, ◌+◌, ◌*◌, ◌≤◌, ◌<◌, ◌≡◌, Bool, true, false, ◌&&◌, List, [], ◌∷◌, ◌++◌, map, length, take, drop, nat_le, nat_lt}
+use Rattle.std.specs.Prelude.{ℕ, ◌+◌, ◌*◌, ◌≤◌, ◌<◌, ◌≡◌, Bool, true, false, ◌&&◌, List, [], ◌∷◌, ◌++◌, map, length, take, drop, nat_le, nat_lt, Some}
 use Rattle.span.specs.declared.ids.Id.{Id}
-use Rattle.std.specs.Prelude.{Some as At}
 use Rattle.span.specs.declared.chunk.RichtextChunk.{RichtextChunk}
 use Rattle.span.specs.declared.span.FugueSpan.{FugueSpan}
 use Rattle.span.specs.Ids.{room_opt}
@@ -61,7 +60,7 @@ pub record Inserting (n : ℕ) (s : List ℕ) (h : ℕ) (e t : List ℕ) (m : �
 -- a well formed list at a version, and a delete with a real id for each unit that it takes
 pub record Deleting (n : ℕ) (s : List ℕ) (h : ℕ) (e t : List ℕ) (m : ℕ) (v : List ℕ) (d : Delete) : Type 0 where
   pub sees : Sees n s h e t m v m v
-  pub ids : room_opt (At d.start) d.len ≡ true
+  pub ids : room_opt (Some d.start) d.len ≡ true
 
 -- either, by what the edit does
 abbrev pub delete_of : ℕ → ℕ → Id → Delete
@@ -73,7 +72,7 @@ does_rest most places h had us i at (Do.Delete n reversed start) = delete_rest m
 
 abbrev pub CanDo : List FugueSpan → Id → Does → Type 0
 CanDo us i (Do.Insert lamport c) = (span_code (new_span i lamport c) ≡ 0) × Fresh (new_span i lamport c) us
-CanDo us i (Do.Delete n reversed start) = room_opt (At start) n ≡ true
+CanDo us i (Do.Delete n reversed start) = room_opt (Some start) n ≡ true
 
 -- a well formed list at a version, target ranges that fit, and an edit that 1 to 7 do not refuse
 pub record Acting (n : ℕ) (s : List ℕ) (h : ℕ) (e t : List ℕ) (m : ℕ) (v : List ℕ) (x : Head) (places : ℕ) : Type 0 where
@@ -101,7 +100,7 @@ pub record Takes (s : List ℕ) (at : ℕ) (id : Id) (lamport : ℕ) (content : 
 pub record Gives (s t : List ℕ) (had : ℕ) (d : Delete) : Type 0 where
   pub state : is_state s ≡ true
   pub some : 0 < d.len
-  pub ids : room_opt (At d.start) d.len ≡ true
+  pub ids : room_opt (Some d.start) d.len ≡ true
   pub low : d.at + d.len ≤ shown (expand (spans_of s))
   pub room : length (join (delete_units d.at d.len d.start (expand (spans_of s)))) ≤ room s
   pub ranges : (had + length (targets_of d (expand (spans_of s)))) * 16 ≤ length t

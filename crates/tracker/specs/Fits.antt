@@ -1,8 +1,7 @@
 -- Whether an insert fits: where two lists of units meet, the cursor of a visible position at a version, and whether the scan from there on leaves a new
 -- span at the cursor. The rows stand at another version, so what is future is asked of the version. Assumes nothing.
-use Rattle.std.specs.Prelude.{ℕ, ◌-◌, ◌<◌, ◌≤◌, ◌≡◌, Bool, true, false, not, ◌&&◌, List, [], ◌∷◌, ◌++◌, length, take, drop, if◌then◌else◌, nat_le, ◌==◌}
+use Rattle.std.specs.Prelude.{ℕ, ◌-◌, ◌<◌, ◌≤◌, ◌≡◌, Bool, true, false, not, ◌&&◌, List, [], ◌∷◌, ◌++◌, length, take, drop, if◌then◌else◌, nat_le, ◌==◌, Some, None}
 use Rattle.span.specs.Maybe.{OptId}
-use Rattle.std.specs.Prelude.{None as Nothing, Some as At}
 use Rattle.span.specs.declared.span.FugueSpan.{FugueSpan}
 use Rattle.span.specs.Span.{len_span, span_code, joins_span}
 use Rattle.span.specs.Units.{unit_at, units_of, expand, join}
@@ -39,8 +38,8 @@ future v u = not (in_version v u.id)
 
 -- the first row that the version has, by its first unit
 unfoldable pub first_in : Version → List FugueSpan → OptId
-first_in v [] = Nothing
-first_in v (s ∷ l) = if future v s then first_in v l else At s.id
+first_in v [] = None
+first_in v (s ∷ l) = if future v s then first_in v l else Some s.id
 
 -- the scan leaves the place where it starts: nothing that it passes clears "holding"
 unfoldable pub stays_at : Version → (List FugueSpan → FugueSpan → Verdict) → List FugueSpan → Bool → List FugueSpan → Bool
@@ -50,13 +49,13 @@ stays_at v f S h (s ∷ l) =
 
 -- the span x after the unit u, with the origins that it has before row `at`
 abbrev pub placed : Version → List FugueSpan → ℕ → FugueSpan → FugueSpan → FugueSpan
-placed v R at u x = with_origins x (At u.id) (first_in v (drop at R))
+placed v R at u x = with_origins x (Some u.id) (first_in v (drop at R))
 
 -- it joins that unit, and nothing comes between
 unfoldable pub joins_at : Version → List FugueSpan → ℕ → FugueSpan → FugueSpan → Bool
 joins_at v R at u x =
     joins_span u (placed v R at u x)
-    && stays_at v (verdict (expand R) (At u.id) (first_in v (drop at R)) (pr_pos (expand R) (At u.id) (first_in v (drop at R))) x.id.peer) [] false (drop at R)
+    && stays_at v (verdict (expand R) (Some u.id) (first_in v (drop at R)) (pr_pos (expand R) (Some u.id) (first_in v (drop at R))) x.id.peer) [] false (drop at R)
 
 -- ---------------------------------------------------------------- the cursor of a position
 

@@ -1,7 +1,6 @@
 -- What refuses an edit, in the parts in which the code asks it. Assumes nothing.
-use Rattle.std.specs.Prelude.{ℕ, ◌-◌, ◌*◌, ◌&&◌, List, pos, drop}
+use Rattle.std.specs.Prelude.{ℕ, ◌-◌, ◌*◌, ◌&&◌, List, pos, drop, Some}
 use Rattle.span.specs.declared.ids.Id.{Id}
-use Rattle.std.specs.Prelude.{Some as At}
 use Rattle.span.specs.Ids.{room_opt}
 use Rattle.span.specs.Status.{eq_z}
 use Rattle.units.specs.Codes.{unless}
@@ -16,7 +15,7 @@ from h e t i = held (h - i) (drop (i * 256) e) (drop (used i e * 16) t)
 
 -- 1 and 2
 unfoldable pub act_code : Id → Act → ℕ
-act_code i a = unless (act_formed a) 1 (unless (room_opt (At i) (size_of a) && act_ids a) 2 0)
+act_code i a = unless (act_formed a) 1 (unless (room_opt (Some i) (size_of a) && act_ids a) 2 0)
 
 -- 6 and 7
 unfoldable pub context_code : List Held → Version → Id → ℕ

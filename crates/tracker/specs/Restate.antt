@@ -1,6 +1,5 @@
 -- A list without its statuses, and rows written again as units are pushed on to them. Assumes nothing.
-use Rattle.std.specs.Prelude.{ℕ, ◌*◌, ◌≤◌, ◌≡◌, Bool, List, [], ◌∷◌, ◌++◌, map, length, drop}
-use Rattle.std.specs.Prelude.{None as Nothing}
+use Rattle.std.specs.Prelude.{ℕ, ◌*◌, ◌≤◌, ◌≡◌, Bool, List, [], ◌∷◌, ◌++◌, map, length, drop, None}
 use Rattle.span.specs.declared.span.FugueSpan.{FugueSpan}
 use Rattle.span.specs.Status.{new_status}
 use Rattle.span.specs.Units.{expand, Joined, join}
@@ -12,7 +11,7 @@ use Rattle.tracker.specs.Looks.{seen}
 
 -- a span with the status that all have as they enter, and no diff_status
 unfoldable pub bare_span : FugueSpan → FugueSpan
-bare_span s = with_state s new_status Nothing s.real_id
+bare_span s = with_state s new_status None s.real_id
 
 unfoldable pub bare_units : List FugueSpan → List FugueSpan
 bare_units us = map bare_span us

@@ -1,5 +1,5 @@
 -- Target ranges, taken from left to right: ids that follow the last range join it. Assumes nothing.
-use Rattle.std.specs.Prelude.{ℕ, zero, suc, ◌+◌, ◌<◌, ◌≤◌, ◌≡◌, true, List, [], ◌∷◌, ◌++◌, map, length}
+use Rattle.std.specs.Prelude.{ℕ, zero, suc, ◌+◌, ◌<◌, ◌≤◌, ◌≡◌, true, List, [], ◌∷◌, ◌++◌, map, length, Some, None}
 use Rattle.span.specs.declared.ids.Id.{Id}
 use Rattle.span.specs.Ids.{room_of, inc_id}
 use Rattle.span.specs.declared.span.FugueSpan.{FugueSpan}
@@ -7,7 +7,6 @@ use Rattle.rope.specs.declared.change.Delete.{Delete}
 use Rattle.units.specs.Change.{taken}
 use Rattle.history.specs.Checkout.{ranges_of}
 use Rattle.tracker.specs.Maybe.{OptTarget}
-use Rattle.std.specs.Prelude.{None as Nothing, Some as Is}
 use Rattle.tracker.specs.declared.range.Taken.{Taken}
 
 -- n ids from i on
@@ -16,17 +15,17 @@ ids_from i zero = []
 ids_from i (suc n) = i ∷ ids_from (inc_id i 1) n
 
 abbrev pub last_ids : OptTarget → List Id
-last_ids Nothing = []
-last_ids (Is t) = ids_from t.id t.len
+last_ids None = []
+last_ids (Some t) = ids_from t.id t.len
 
 abbrev pub last_len : OptTarget → ℕ
-last_len Nothing = 0
-last_len (Is t) = t.len
+last_len None = 0
+last_len (Some t) = t.len
 
 -- a range with some ids, and counters for them
 abbrev pub LastOk : OptTarget → Type 0
-LastOk Nothing = Unit {0}
-LastOk (Is t) = (0 < t.len) × (room_of t.id t.len ≡ true)
+LastOk None = Unit {0}
+LastOk (Some t) = (0 < t.len) × (room_of t.id t.len ≡ true)
 
 -- no more ranges before the last than ids, as many ids as there are units at the most
 unfoldable pub ids_most : Taken → ℕ

@@ -144,7 +144,22 @@ pub fn stays_from(
 {
     let count = units(s, n);
     let p = parent_pos(s, n, count, x, o);
-    stays(&s[at * 72..], n - at, s, n, count, e, h, t, v, m, x, o, p, q)
+    stays(
+        &s[at * 72..],
+        n - at,
+        s,
+        n,
+        count,
+        e,
+        h,
+        t,
+        v,
+        m,
+        x,
+        o,
+        p,
+        q,
+    )
 }
 
 // Whether a span entered right after the unit u, before row `at`, joins it.

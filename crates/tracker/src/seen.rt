@@ -32,7 +32,13 @@ pub struct Step {
 }
 
 // len units of a row from `from` on, with these statuses. An inner function: the callers know that the row has these units.
-pub fn part_with(row: FugueSpan, from: u32, len: u32, status: Status, diff: Option<Status>) -> FugueSpan
+pub fn part_with(
+    row: FugueSpan,
+    from: u32,
+    len: u32,
+    status: Status,
+    diff: Option<Status>,
+) -> FugueSpan
     requires { (span_code row ≡ 0) × (0 < len) × (from + len ≤ len_span row) }
     ensures { result ≡ with_state (part_span row from (from + len)) status diff (part_span row from (from + len)).real_id }
 {

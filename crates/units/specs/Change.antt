@@ -1,12 +1,10 @@
 -- Deletes and updates on a list of units, as 01 states them (000 `delete`, `update`, `clear_diff_status`). Order and ids stay. Assumes nothing.
-use Rattle.std.specs.Prelude.{ℕ, zero, suc, ◌+◌, ◌-◌, min, Bool, true, false, ◌&&◌, List, [], ◌∷◌, ◌++◌, map, reverse, ℤ, pos, ◌+ℤ◌, if◌then◌else◌, nat_le, nat_lt, ◌==◌}
+use Rattle.std.specs.Prelude.{ℕ, zero, suc, ◌+◌, ◌-◌, min, Bool, true, false, ◌&&◌, List, [], ◌∷◌, ◌++◌, map, reverse, ℤ, pos, ◌+ℤ◌, if◌then◌else◌, nat_le, nat_lt, ◌==◌, Some, None}
 use Rattle.std.specs.Int.Signed.{le_z, lt_z}
 use Rattle.span.specs.declared.ids.Id.{Id}
 use Rattle.span.specs.Maybe.{OptId}
-use Rattle.std.specs.Prelude.{None as Nothing, Some as At}
 use Rattle.span.specs.declared.status.Status.{Status}
 use Rattle.span.specs.Maybe.{OptStatus}
-use Rattle.std.specs.Prelude as Opt
 use Rattle.span.specs.declared.span.FugueSpan.{FugueSpan}
 use Rattle.span.specs.Ids.{inc_id}
 use Rattle.span.specs.Status.{status, activated}
@@ -34,8 +32,8 @@ with_state u s d r =
 
 -- a real id, or this one if there is none
 abbrev pub or_real : OptId → Id → OptId
-or_real Nothing i = At i
-or_real (At r) i = At r
+or_real None i = Some i
+or_real (Some r) i = Some r
 
 -- a unit that a delete takes: its count goes up by 1, and it gets a real id only if it has none
 unfoldable pub delete_unit : Id → FugueSpan → FugueSpan
@@ -90,8 +88,8 @@ change_status f k s = status (set_future f s.future) (s.delete_times +ℤ k)
 
 -- the diff_status, or the status where it is absent
 abbrev pub diff_or : OptStatus → Status → Status
-diff_or Opt.None s = s
-diff_or (Opt.Some d) s = d
+diff_or None s = s
+diff_or (Some d) s = d
 
 -- the status that an update works on
 unfoldable pub base_of : Bool → FugueSpan → Status
@@ -99,7 +97,7 @@ base_of diff u = if diff then diff_or u.diff_status u.status else u.status
 
 unfoldable pub update_unit : SetFuture → ℤ → Bool → FugueSpan → FugueSpan
 update_unit f k diff u =
-    if diff then with_state u u.status (Opt.Some (change_status f k (base_of diff u))) u.real_id
+    if diff then with_state u u.status (Some (change_status f k (base_of diff u))) u.real_id
     else with_state u (change_status f k (base_of diff u)) u.diff_status u.real_id
 
 -- a unit is of peer p with a counter in a..b
@@ -112,4 +110,4 @@ update_units p a b f k diff l = map (λ (u : FugueSpan). (if in_range p a b u th
 -- ---------------------------------------------------------------- clear_diff_status
 
 unfoldable pub clear_units : List FugueSpan → List FugueSpan
-clear_units l = map (λ (u : FugueSpan). with_state u u.status Opt.None u.real_id) l
+clear_units l = map (λ (u : FugueSpan). with_state u u.status None u.real_id) l

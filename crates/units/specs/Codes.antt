@@ -1,8 +1,7 @@
 -- What each rope call answers: 0 or the number of 01's refusal, from the whole input, and the list afterwards. 15 goes first and 13 last, else the lowest. Assumes nothing.
-use Rattle.std.specs.Prelude.{ℕ, zero, suc, ◌+◌, Bool, false, not, ◌&&◌, ◌||◌, List, [], ◌∷◌, ℤ, pos, ◌+ℤ◌, ◌-ℤ◌, length, if◌then◌else◌, nat_le, ◌==◌}
+use Rattle.std.specs.Prelude.{ℕ, zero, suc, ◌+◌, Bool, false, not, ◌&&◌, ◌||◌, List, [], ◌∷◌, ℤ, pos, ◌+ℤ◌, ◌-ℤ◌, length, if◌then◌else◌, nat_le, ◌==◌, Some}
 use Rattle.std.specs.Int.Signed.{le_z}
 use Rattle.span.specs.declared.ids.Id.{Id}
-use Rattle.std.specs.Prelude.{Some as At}
 use Rattle.span.specs.declared.span.FugueSpan.{FugueSpan}
 use Rattle.span.specs.Chunk.{formed}
 use Rattle.span.specs.Ids.{UNKNOWN_PEER, inc_id, room_opt}
@@ -28,7 +27,7 @@ kept code new old = if code == 0 then new else old
 -- some of the n ids from i on are in the list
 unfoldable pub holds_some : ℕ → Id → List FugueSpan → Bool
 holds_some zero i l = false
-holds_some (suc n) i l = mem_id (At i) l || holds_some n (inc_id i 1) l
+holds_some (suc n) i l = mem_id (Some i) l || holds_some n (inc_id i 1) l
 
 -- all ids a..b of a peer are in the list: as many units as ids, since no id is there twice
 unfoldable pub holds_all : ℕ → ℤ → ℤ → List FugueSpan → Bool
@@ -66,7 +65,7 @@ unfoldable pub delete_code : ℕ → List FugueSpan → List FugueSpan → ℕ �
 delete_code room out l at len start reversed =
     unless (well_formed l) 15
     (if len == 0 then 0
-    else unless (room_opt (At start) len) 2
+    else unless (room_opt (Some start) len) 2
     (unless (nat_le (at + len) (shown (expand l))) 8
     (unless (fits room (join (delete_units at len start (expand l)))) 10
     (unless (nat_le (length (pieces l at len reversed)) (length out)) 13 0))))

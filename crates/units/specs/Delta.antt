@@ -1,7 +1,6 @@
 -- The delta from status to diff_status, as 01 states it (000 `get_diff`), on spans or on units. Assumes nothing.
-use Rattle.std.specs.Prelude.{ℕ, ◌+◌, Bool, true, false, ◌&&◌, List, [], ◌∷◌, if◌then◌else◌, ◌==◌}
+use Rattle.std.specs.Prelude.{ℕ, ◌+◌, Bool, true, false, ◌&&◌, List, [], ◌∷◌, if◌then◌else◌, ◌==◌, Some, None}
 use Rattle.span.specs.Maybe.{OptId}
-use Rattle.std.specs.Prelude as OptI
 use Rattle.span.specs.declared.span.FugueSpan.{FugueSpan}
 use Rattle.span.specs.declared.span.DiffStatus.{DiffStatus}
 use Rattle.span.specs.declared.span.DiffStatus.TheVariants.{NotChanged, Created, Deleted}
@@ -43,8 +42,8 @@ entries l = entries_from l 0
 -- ---------------------------------------------------------------- a delta would insert a unit without real id: 12
 
 abbrev pub is_real : OptId → Bool
-is_real OptI.None = false
-is_real (OptI.Some i) = true
+is_real None = false
+is_real (Some i) = true
 
 abbrev pub real_if_created : DiffStatus → OptId → Bool
 real_if_created NotChanged r = true

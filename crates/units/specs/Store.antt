@@ -1,7 +1,6 @@
 -- A store: the list of spans in a lent buffer, and when it is well formed (refusal 15). Assumes nothing.
-use Rattle.std.specs.Prelude.{ℕ, Bool, true, false, not, ◌&&◌, List, [], ◌∷◌, length, if◌then◌else◌, nat_le, ◌==◌}
+use Rattle.std.specs.Prelude.{ℕ, Bool, true, false, not, ◌&&◌, List, [], ◌∷◌, length, if◌then◌else◌, nat_le, ◌==◌, Some, None}
 use Rattle.span.specs.Maybe.{OptId}
-use Rattle.std.specs.Prelude.{None as Nothing, Some as At}
 use Rattle.span.specs.declared.span.FugueSpan.{FugueSpan}
 use Rattle.span.specs.Span.{span_code, joins_span}
 use Rattle.span.specs.Units.{expand}
@@ -23,12 +22,12 @@ joined_rows (s ∷ l) = if span_code s == 0 then (if touching s l then false els
 -- no id twice, among units
 unfoldable pub distinct_ids : List FugueSpan → Bool
 distinct_ids [] = true
-distinct_ids (u ∷ us) = not (mem_id (At u.id) us) && distinct_ids us
+distinct_ids (u ∷ us) = not (mem_id (Some u.id) us) && distinct_ids us
 
 -- an origin is none, or it names one of the units
 unfoldable pub named : OptId → List FugueSpan → Bool
-named Nothing us = true
-named (At i) us = mem_id (At i) us
+named None us = true
+named (Some i) us = mem_id (Some i) us
 
 -- every origin, left and right, of these spans
 unfoldable pub origins_named : List FugueSpan → List FugueSpan → Bool

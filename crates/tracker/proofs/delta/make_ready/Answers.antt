@@ -11,8 +11,8 @@ pub returns-then-ka-gt-PEERS : goal.returns-then-ka-gt-PEERS
 returns-then-ka-gt-PEERS c =
     let x = c.args in
     elim c.if-ka-gt-PEERS.branch [
-      then-ka-gt-PEERS w ↦ ready_from x.s.now x.t.now x.e.now c.requires.0 x.a.now x.b.now x.ka x.kb x.most c.requires.1 c.requires.2 w.if-ka-gt-PEERS.true
-    | else-ka-gt-PEERS w ↦ ready_to x.s.now x.t.now x.e.now c.requires.0 x.a.now x.b.now x.ka x.kb x.most c.requires.1 c.requires.2 w.if-kb-gt-PEERS.true
+      | then-ka-gt-PEERS w ↦ ready_from x.s.now x.t.now x.e.now c.requires.0 x.a.now x.b.now x.ka x.kb x.most c.requires.1 c.requires.2 w.if-ka-gt-PEERS.true
+      | else-ka-gt-PEERS w ↦ ready_to x.s.now x.t.now x.e.now c.requires.0 x.a.now x.b.now x.ka x.kb x.most c.requires.1 c.requires.2 w.if-kb-gt-PEERS.true
     ]
 
 pub edit_count-h-requires : goal.edit_count-h-requires

@@ -8,8 +8,8 @@ pub put_row-requires-2 : goal.put_row-requires-2
 put_row-requires-2 c =
     let a = c.args in
     elim c.if-w-gt0.branch [
-      then-w-gt0+else-can_merge w ↦ own_room a.w a.y a.s.now c.requires.0 c.requires.1 w.get_row-left.result w.if-w-gt0.true w.get_row-left.ensures (sym w.can_merge.ensures ∙ w.if-can_merge.false)
-    | else-w-gt0 w ↦ first_room a.w a.y a.s.now c.requires.0 c.requires.1 (omega (arith, w.if-w-gt0.false))
+      | then-w-gt0+else-can_merge w ↦ own_room a.w a.y a.s.now c.requires.0 c.requires.1 w.get_row-left.result w.if-w-gt0.true w.get_row-left.ensures (sym w.can_merge.ensures ∙ w.if-can_merge.false)
+      | else-w-gt0 w ↦ first_room a.w a.y a.s.now c.requires.0 c.requires.1 (omega (arith, w.if-w-gt0.false))
     ]
 
 pub returns-then-can_merge : goal.returns-then-can_merge
@@ -21,6 +21,6 @@ pub returns : goal.returns
 returns c =
     let a = c.args in
     elim c.if-w-gt0.branch [
-      then-w-gt0+else-can_merge w ↦ grown_own a.w a.y a.s.now c.requires.0 c.requires.1 _ w.get_row-left.result w.if-w-gt0.true w.get_row-left.ensures (sym w.can_merge.ensures ∙ w.if-can_merge.false) c.put_row-2.ensures
-    | else-w-gt0 w ↦ grown_first a.w a.y a.s.now c.requires.0 c.requires.1 _ (omega (arith, w.if-w-gt0.false)) c.put_row-2.ensures
+      | then-w-gt0+else-can_merge w ↦ grown_own a.w a.y a.s.now c.requires.0 c.requires.1 _ w.get_row-left.result w.if-w-gt0.true w.get_row-left.ensures (sym w.can_merge.ensures ∙ w.if-can_merge.false) c.put_row-2.ensures
+      | else-w-gt0 w ↦ grown_first a.w a.y a.s.now c.requires.0 c.requires.1 _ (omega (arith, w.if-w-gt0.false)) c.put_row-2.ensures
     ]

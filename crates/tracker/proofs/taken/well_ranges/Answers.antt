@@ -12,9 +12,9 @@ use Rattle.tracker.proofs.taken.well_ranges.Goals as goal
 pub returns-then-r-eq0 : goal.returns-then-r-eq0
 returns-then-r-eq0 c = let l = c.loop-j in let a = c.args in
     elim c.then-r-eq0.branch [
-      then-r-eq0-via-then-r-eq0 w ↦ sym (l.invariant ∙ well_turn a.m a.t.now l.j c.loop-j-test.true _ c.get_target-r.ensures true _ _ (eq-eqb _ _ w.if-r-eq0.true) refl refl)
-    | then-r-eq0-via-else-r-eq0+then-not-has_room w ↦ sym (l.invariant ∙ well_turn a.m a.t.now l.j c.loop-j-test.true _ c.get_target-r.ensures false false _ (ne_eqb _ _ w.if-r-eq0.false) (sym w.has_room.ensures ∙ not-true _ (ap not w.if-not-has_room.true)) refl)
-    | then-r-eq0-via-else-r-eq0+else-not-has_room+then-runs_into w ↦ sym (l.invariant ∙ well_turn a.m a.t.now l.j c.loop-j-test.true _ c.get_target-r.ensures false true true (ne_eqb _ _ w.if-r-eq0.false) (sym w.has_room.ensures ∙ not-false _ (ap not w.if-not-has_room.false)) (sym w.runs_into.ensures ∙ w.if-runs_into.true))
+      | then-r-eq0-via-then-r-eq0 w ↦ sym (l.invariant ∙ well_turn a.m a.t.now l.j c.loop-j-test.true _ c.get_target-r.ensures true _ _ (eq-eqb _ _ w.if-r-eq0.true) refl refl)
+      | then-r-eq0-via-else-r-eq0+then-not-has_room w ↦ sym (l.invariant ∙ well_turn a.m a.t.now l.j c.loop-j-test.true _ c.get_target-r.ensures false false _ (ne_eqb _ _ w.if-r-eq0.false) (sym w.has_room.ensures ∙ not-true _ (ap not w.if-not-has_room.true)) refl)
+      | then-r-eq0-via-else-r-eq0+else-not-has_room+then-runs_into w ↦ sym (l.invariant ∙ well_turn a.m a.t.now l.j c.loop-j-test.true _ c.get_target-r.ensures false true true (ne_eqb _ _ w.if-r-eq0.false) (sym w.has_room.ensures ∙ not-false _ (ap not w.if-not-has_room.false)) (sym w.runs_into.ensures ∙ w.if-runs_into.true))
     ]
 
 pub loop-j-preserved : goal.loop-j-preserved

@@ -15,8 +15,8 @@ overflow_add-both c = let a = c.args in
 pub put_target-requires-2 : goal.put_target-requires-2
 put_target-requires-2 c = let a = c.args in
     elim c.if-k-gt0.branch [
-      then-k-gt0+else-follows w ↦ own_room a.at a.k a.x a.t.now c.requires w.if-k-gt0.true w.get_target-last.result w.get_target-last.ensures (sym w.follows.ensures ∙ w.if-follows.false)
-    | else-k-gt0 w ↦ first_room a.at a.k a.x a.t.now c.requires (omega (arith, w.if-k-gt0.false))
+      | then-k-gt0+else-follows w ↦ own_room a.at a.k a.x a.t.now c.requires w.if-k-gt0.true w.get_target-last.result w.get_target-last.ensures (sym w.follows.ensures ∙ w.if-follows.false)
+      | else-k-gt0 w ↦ first_room a.at a.k a.x a.t.now c.requires (omega (arith, w.if-k-gt0.false))
     ]
 
 pub returns-then-follows : goal.returns-then-follows
@@ -28,6 +28,6 @@ pub returns : goal.returns
 returns c = let a = c.args in
     let q : a.x.id.peer < 2 ^ 64 = omega (arith, c.well_formed) in
     elim c.if-k-gt0.branch [
-      then-k-gt0+else-follows w ↦ added_own a.at a.k a.x a.t.now c.requires w.if-k-gt0.true w.get_target-last.result w.get_target-last.ensures (sym w.follows.ensures ∙ w.if-follows.false) q _ c.put_target-2.ensures
-    | else-k-gt0 w ↦ added_first a.at a.k a.x a.t.now c.requires (omega (arith, w.if-k-gt0.false)) q _ c.put_target-2.ensures
+      | then-k-gt0+else-follows w ↦ added_own a.at a.k a.x a.t.now c.requires w.if-k-gt0.true w.get_target-last.result w.get_target-last.ensures (sym w.follows.ensures ∙ w.if-follows.false) q _ c.put_target-2.ensures
+      | else-k-gt0 w ↦ added_first a.at a.k a.x a.t.now c.requires (omega (arith, w.if-k-gt0.false)) q _ c.put_target-2.ensures
     ]

@@ -8,10 +8,10 @@ use Rattle.tracker.proofs.measure.Measure.change.Goals as goal
 pub returns : goal.returns
 returns c = let x = c.args in
     let e : c.if-self.result ≡ (x.self.fine && x.real) = elim c.if-self.branch [
-      then-self w ↦ w.result-is ∙ and_true x.self.fine x.real w.if-self.true
-    | else-self w ↦ w.result-is ∙ (w.if-self.false ∙ and_false x.self.fine x.real w.if-self.false)
+      | then-self w ↦ w.result-is ∙ and_true x.self.fine x.real w.if-self.true
+      | else-self w ↦ w.result-is ∙ (w.if-self.false ∙ and_false x.self.fine x.real w.if-self.false)
     ] in
     elim c.if-self-eq0.branch [
-      then-self-eq0 w ↦ rw w.new-is (changed_by x.self x.real true (eq-eqb x.self.gap 0 w.if-self-eq0.true) _ e)
-    | else-self-eq0 w ↦ rw w.new-is (changed_by x.self x.real false (ne_eqb x.self.gap 0 w.if-self-eq0.false) _ e)
+      | then-self-eq0 w ↦ rw w.new-is (changed_by x.self x.real true (eq-eqb x.self.gap 0 w.if-self-eq0.true) _ e)
+      | else-self-eq0 w ↦ rw w.new-is (changed_by x.self x.real false (ne_eqb x.self.gap 0 w.if-self-eq0.false) _ e)
     ]
