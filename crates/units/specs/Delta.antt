@@ -9,13 +9,12 @@ use Rattle.span.specs.Ids.{UNKNOWN_PEER, inc_id, same_id}
 use Rattle.span.specs.Span.{len_span, active_len, real_of, diff_of}
 -- an entry: Retain, Delete or Insert, the last with a lamport or none
 pub use Rattle.units.specs.Maybe.{OptLamport}
-pub use Rattle.std.specs.Prelude.{None as Nothing, Some as At}
 pub use Rattle.units.specs.declared.diff.Entry.{Entry}
 pub use Rattle.units.specs.declared.diff.Entry.TheVariants.{Retain, Delete, Insert}
 
 -- the lamport of an Insert: none for the unknown peer
 unfoldable pub lamport_of : FugueSpan → OptLamport
-lamport_of s = if s.id.peer == UNKNOWN_PEER then Nothing else At s.lamport
+lamport_of s = if s.id.peer == UNKNOWN_PEER then None else Some s.lamport
 
 -- an Insert of a span (one without real id is refused, 12)
 unfoldable pub insert_of_span : FugueSpan → Entry
@@ -57,10 +56,10 @@ insertable s = real_if_created (diff_of s) s.real_id
 
 -- lamports run on, or are both absent
 unfoldable pub lamports_run : OptLamport → ℕ → OptLamport → Bool
-lamports_run Nothing n Nothing = true
-lamports_run Nothing n (At b) = false
-lamports_run (At a) n Nothing = false
-lamports_run (At a) n (At b) = (a + n) == b
+lamports_run None n None = true
+lamports_run None n (Some b) = false
+lamports_run (Some a) n None = false
+lamports_run (Some a) n (Some b) = (a + n) == b
 
 -- two Retains, two Deletes, or two Inserts whose chunks join, whose real ids run on and whose lamports run on or are both absent
 unfoldable pub like : Entry → Entry → Bool
