@@ -119,6 +119,7 @@ pub fn delta(
 
 // ---- The delta applied
 
+#[tactic(auto, unfolding(crate::specs::Say::said_at, crate::specs::Say::said_text, crate::specs::Entries::item_at))]
 fn item(out: &[u8], i: usize, output: &mut Output, text: &mut [u8], at: usize) -> usize
     ensures { Says at (item_at out.now i) text.old result text.new }
 {
@@ -167,6 +168,7 @@ fn apply_entries(
     )
 }
 
+#[tactic(auto, unfolding(crate::specs::Entries::answer_lines))]
 fn listed(
     r: Result<usize, Refusal>,
     out: &[u8],

@@ -30,6 +30,7 @@ fn clear(s: &mut [u8], output: &mut Output, text: &mut [u8], at: usize) -> usize
 }
 
 // piece LEN SPAN, for row i of those that a delete put out
+#[tactic(auto, unfolding(crate::specs::Say::said_at, crate::specs::Say::said_text, crate::specs::Lines::piece_lines))]
 fn piece(out: &[u8], i: usize, output: &mut Output, text: &mut [u8], at: usize) -> usize
     ensures { Says at (piece_lines out.now i) text.old result text.new }
 {

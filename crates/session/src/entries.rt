@@ -15,6 +15,7 @@ use text::puts::put;
 // ---- One entry
 
 // LAMPORT, or - where the entry has none
+#[tactic(auto, unfolding(crate::specs::Entries::lamport_text))]
 fn lamport(text: &mut [u8], at: usize, x: EntryNumbers) -> usize
     ensures { Puts at (lamport_text x) text.old result text.new }
 {
@@ -40,6 +41,7 @@ fn insert_line(text: &mut [u8], at: usize, x: EntryNumbers) -> usize
     put(text, at, b"\n")
 }
 
+#[tactic(auto, unfolding(crate::specs::Say::said_at, crate::specs::Say::said_text))]
 fn inserted(output: &mut Output, text: &mut [u8], at: usize, x: EntryNumbers) -> usize
     ensures { Says at (insert_line x ∷ []) text.old result text.new }
 {
@@ -47,6 +49,7 @@ fn inserted(output: &mut Output, text: &mut [u8], at: usize, x: EntryNumbers) ->
     insert_line(text, at, x)
 }
 
+#[tactic(auto, unfolding(crate::specs::Entries::entry_line))]
 fn entry(x: EntryNumbers, output: &mut Output, text: &mut [u8], at: usize) -> usize
     ensures { Says at (entry_line x ∷ []) text.old result text.new }
 {

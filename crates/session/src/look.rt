@@ -29,6 +29,7 @@ pub fn row_of(s: &[u8], i: usize) -> Option<FugueSpan>
 }
 
 // The rows that the header says, where it is one.
+#[tactic(auto, unfolding(crate::specs::Lines::rows_said))]
 fn rows_of(s: &[u8]) -> usize
     ensures { result ≡ rows_said s.now }
 {
@@ -39,6 +40,7 @@ fn rows_of(s: &[u8]) -> usize
     }
 }
 
+#[tactic(auto, unfolding(crate::specs::Lines::len_lines))]
 fn len(a: Result<usize, Refusal>, output: &mut Output, text: &mut [u8], at: usize) -> usize
     ensures { Says at (len_lines a) text.old result text.new }
 {
@@ -124,6 +126,7 @@ fn units(
 }
 
 // How many lines a row gives.
+#[tactic(auto, unfolding(crate::specs::Lines::span_count))]
 fn lines(kind: Kind, x: FugueSpan) -> u64
     ensures { result ≡ span_count kind x }
 {
@@ -134,6 +137,7 @@ fn lines(kind: Kind, x: FugueSpan) -> u64
     }
 }
 
+#[tactic(auto, unfolding(crate::specs::Lines::row_count))]
 fn lines_at(kind: Kind, s: &[u8], i: usize) -> u64
     ensures { result ≡ row_count kind (row_of s.now i) }
 {
@@ -153,6 +157,7 @@ fn all_lines(kind: Kind, s: &[u8], n: usize) -> u64
     sum
 }
 
+#[tactic(auto, unfolding(crate::specs::Lines::span_lines))]
 fn row_lines(kind: Kind, x: FugueSpan, output: &mut Output, text: &mut [u8], at: usize) -> usize
     ensures { Says at (span_lines kind x) text.old result text.new }
 {
@@ -163,6 +168,7 @@ fn row_lines(kind: Kind, x: FugueSpan, output: &mut Output, text: &mut [u8], at:
     }
 }
 
+#[tactic(auto, unfolding(crate::specs::Say::said_at, crate::specs::Say::said_text, crate::specs::Lines::row_lines))]
 fn row_at(kind: Kind, s: &[u8], i: usize, output: &mut Output, text: &mut [u8], at: usize) -> usize
     ensures { Says at (row_lines kind (row_of s.now i)) text.old result text.new }
 {
@@ -196,6 +202,7 @@ fn list(fine: bool, kind: Kind, s: &[u8], output: &mut Output, text: &mut [u8], 
 }
 
 // Writes a row as it is said.
+#[tactic(auto, unfolding(crate::specs::Lines::row_fits))]
 pub fn put_row(
     s: &mut [u8],
     i: u32,
@@ -216,6 +223,7 @@ pub fn put_row(
 }
 
 // Sets the number of rows as it is said.
+#[tactic(auto, unfolding(crate::specs::Lines::rows_fit))]
 pub fn set_rows(s: &mut [u8], n: u32, output: &mut Output, text: &mut [u8], at: usize) -> usize
     ensures { (Says at (within_lines (rows_fit n s.old)) text.old result text.new) × (s.new ≡ rows_set n s.old) }
 {

@@ -32,6 +32,7 @@ pub fn flush(output: &mut Output, text: &[u8], at: usize) -> usize
 }
 
 // Writes the answer out where the buffer might not take another line, of 1,024 bytes at most.
+#[tactic(auto, unfolding(crate::specs::Say::line_start))]
 pub fn make_room(output: &mut Output, text: &[u8], at: usize) -> usize
     ensures { result ≡ line_start at }
 {
@@ -42,6 +43,7 @@ pub fn make_room(output: &mut Output, text: &[u8], at: usize) -> usize
     }
 }
 
+#[tactic(auto, unfolding(crate::specs::Say::said_at, crate::specs::Say::said_text))]
 pub fn ok(output: &mut Output, text: &mut [u8], at: usize) -> usize
     ensures { Says at ok_lines text.old result text.new }
 {
@@ -49,6 +51,7 @@ pub fn ok(output: &mut Output, text: &mut [u8], at: usize) -> usize
     put(text, at, b"ok\n")
 }
 
+#[tactic(auto, unfolding(crate::specs::Say::said_at, crate::specs::Say::said_text))]
 pub fn error(output: &mut Output, text: &mut [u8], at: usize) -> usize
     ensures { Says at error_lines text.old result text.new }
 {
@@ -63,6 +66,7 @@ pub fn refused(output: &mut Output, text: &mut [u8], at: usize, refusal: Refusal
 }
 
 // ok, or the refusal
+#[tactic(auto, using(span::proofs::RefusalLaws::number_not_zero), unfolding(crate::specs::Lines::done_lines))]
 pub fn done(output: &mut Output, text: &mut [u8], at: usize, outcome: Result<(), Refusal>) -> usize
     ensures { Says at (done_lines (code_of outcome)) text.old result text.new }
 {
@@ -73,6 +77,7 @@ pub fn done(output: &mut Output, text: &mut [u8], at: usize, outcome: Result<(),
 }
 
 // A name and a number.
+#[tactic(auto, unfolding(crate::specs::Say::said_at, crate::specs::Say::said_text))]
 pub fn counted(output: &mut Output, text: &mut [u8], at: usize, name: &[u8], n: u64) -> usize
     ensures { Says at (head_line name.now n ∷ []) text.old result text.new }
 {
@@ -81,6 +86,7 @@ pub fn counted(output: &mut Output, text: &mut [u8], at: usize, name: &[u8], n: 
 }
 
 // unit UNIT
+#[tactic(auto, unfolding(crate::specs::Say::said_at, crate::specs::Say::said_text))]
 pub fn unit(output: &mut Output, text: &mut [u8], at: usize, x: FugueSpan) -> usize
     ensures { Says at (unit_line x ∷ []) text.old result text.new }
 {
@@ -89,6 +95,7 @@ pub fn unit(output: &mut Output, text: &mut [u8], at: usize, x: FugueSpan) -> us
 }
 
 // span LEN SPAN, and piece LEN SPAN
+#[tactic(auto, unfolding(crate::specs::Say::said_at, crate::specs::Say::said_text))]
 pub fn span(output: &mut Output, text: &mut [u8], at: usize, name: &[u8], x: FugueSpan) -> usize
     ensures { Says at (span_line name.now (len_span x) x ∷ []) text.old result text.new }
 {
@@ -97,6 +104,7 @@ pub fn span(output: &mut Output, text: &mut [u8], at: usize, name: &[u8], x: Fug
 }
 
 // item ID CHUNK
+#[tactic(auto, unfolding(crate::specs::Say::said_at, crate::specs::Say::said_text))]
 pub fn item(
     output: &mut Output,
     text: &mut [u8],

@@ -26,6 +26,7 @@ fn put<T: Copy>(column: &mut [T], i: usize, x: T)
     }
 }
 
+#[tactic(auto, unfolding(crate::specs::Columns::peer_put, crate::specs::Columns::count_put))]
 fn put_pair(w: &[u8], i: usize, peers: &mut [u64], counts: &mut [u32])
     ensures { (peers.new ≡ peer_put (pair_of w.now i) i peers.old) × (counts.new ≡ count_put (pair_of w.now i) i counts.old) }
 {

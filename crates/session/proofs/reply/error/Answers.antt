@@ -1,7 +1,0 @@
-use Rattle.std.proofs.Common.{[], ◌∷◌, ◌++◌}
-use Rattle.text.specs.Ascii.{ascii}
-use Rattle.session.proofs.SayLaws.{says_line}
-use Rattle.session.proofs.reply.error.Goals as goal
-
-pub returns : goal.returns
-returns c = let a = c.args in says_line a.at (ascii "error" ++ (10 ∷ [])) a.text.now c.make_room-at.ensures c.put.ensures
