@@ -2,7 +2,7 @@
 use Prim.Native.Nat.{ℕ, ◌+◌, ◌-◌, ◌*◌, ◌<◌, ◌≤◌}
 use mathlib.Core.Path.{◌≡◌, refl, sym, ap, subst, ◌∙◌}
 use mathlib.Core.Bool.{Bool, true, false, cond, ◌&&◌, and_assoc, true≢false}
-use Rattle.core.specs.Option.{is_some}
+use Rattle.std.specs.Option.{is_some}
 use Rattle.std.specs.Prelude.{None as Nothing, Some as At}
 use Rattle.span.specs.Maybe.{OptId}
 use mathlib.Core.List.{List, [], ◌∷◌, ◌++◌, append_assoc, append-nil}
