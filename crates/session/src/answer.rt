@@ -20,6 +20,7 @@ fn bytes_of(rows: u32) -> usize
 }
 
 // The end of an opening: where it was refused, what was open stays.
+#[tactic(auto, using(span::proofs::RefusalLaws::number_not_zero), unfolding(crate::specs::Sessions::opened_by))]
 fn opened(
     s: Session,
     what: Open,

@@ -131,6 +131,7 @@ fn diff_into(
 }
 
 // The entries lent where n are asked: 8,192 at most.
+#[tactic(auto, unfolding(crate::specs::Entries::lent_entries))]
 pub fn most(n: usize) -> usize
     ensures { (result ≡ lent_entries n) × (result ≤ 8192) }
 {

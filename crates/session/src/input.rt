@@ -41,6 +41,7 @@ impl Reader {
     }
 
     // Past a line of n bytes and its end.
+    #[tactic(auto, unfolding(crate::specs::Input::past_line))]
     fn past(self, n: usize) -> Self
         ensures { result ≡ past_line self n }
     {
@@ -63,6 +64,7 @@ fn unread(bytes: &[u8], r: Reader) -> &[u8]
 }
 
 // Whether a line's end is held.
+#[tactic(auto, unfolding(crate::specs::Input::has_line))]
 fn has_line(bytes: &[u8], r: Reader) -> bool
     ensures { result ≡ has_line (held bytes.now r) }
 {

@@ -18,6 +18,7 @@ use store::header;
 use text::puts::{put, put_hex};
 
 // Row i of the list: the header stands before row 0.
+#[tactic(auto, unfolding(crate::specs::Lines::row_of))]
 pub fn row_of(s: &[u8], i: usize) -> Option<FugueSpan>
     ensures { result ≡ row_of s.now i }
 {
@@ -50,6 +51,7 @@ fn len(a: Result<usize, Refusal>, output: &mut Output, text: &mut [u8], at: usiz
     }
 }
 
+#[tactic(auto, unfolding(crate::specs::Say::said_at, crate::specs::Say::said_text, crate::specs::Lines::at_lines))]
 fn at_pos(
     a: Result<Option<(Id, u32)>, Refusal>,
     output: &mut Output,
@@ -94,6 +96,7 @@ impl Kind {
 }
 
 // Unit k of a span: its line, or none where it is no item.
+#[tactic(auto, unfolding(crate::specs::Say::said_at, crate::specs::Say::said_text, crate::specs::Lines::unit_lines, crate::specs::Lines::one_lines))]
 fn unit(kind: Kind, x: FugueSpan, k: u32, output: &mut Output, text: &mut [u8], at: usize) -> usize
     requires { k + 1 < 2 ^ 32 }
     ensures { Says at (unit_lines kind (slice_span_of x k (k + 1))) text.old result text.new }
