@@ -8,12 +8,12 @@ use lib.Dec.{eqb}
 use lib.ListN.{length, length-append}
 use lib.Seq.{take_at, drop_at}
 use borrow.Author.Tests.{eqb-true}
+use Rattle.std.specs.Prelude.{None, Some}
 use Rattle.span.specs.declared.chunk.RichtextChunk.{RichtextChunk}
 use Rattle.span.specs.declared.ids.Id.{Id}
 use Rattle.span.specs.Maybe.{OptId}
 use Rattle.span.specs.declared.status.Status.{Status}
 use Rattle.span.specs.Maybe.{OptStatus}
-use Rattle.std.specs.Prelude as Opt
 use Rattle.span.specs.declared.span.FugueSpan.{FugueSpan}
 use Rattle.span.specs.declared.span.DiffStatus.{DiffStatus}
 use Rattle.span.specs.declared.span.DiffStatus.TheVariants.{NotChanged, Created, Deleted}
@@ -89,8 +89,8 @@ unfolding new_unit with_state active_in_diff
 new_shown u = go u.diff_status
   where
     go : (d : OptStatus) → activated (or_status d u.status) ≡ active_by d (activated u.status)
-    go Opt.None = refl
-    go (Opt.Some x) = refl
+    go None = refl
+    go (Some x) = refl
 
 unit_shown : (s : FugueSpan) (k : ℕ) → activated (unit_at s k).status ≡ activated s.status
 unfolding shift
@@ -128,8 +128,8 @@ turn s = go s.diff_status refl
     both false true d p q a b = comes (q ∙ p) a b
 
     go : (d : OptStatus) → s.diff_status ≡ d → Turn s
-    go Opt.None e = stays (activated s.status) (ap (λ (d : OptStatus). diff_by d (activated s.status)) e) refl (ap (λ (d : OptStatus). active_by d (activated s.status)) e)
-    go (Opt.Some x) e = both (activated s.status) (activated x) _ refl (ap (λ (d : OptStatus). diff_by d (activated s.status)) e) refl (ap (λ (d : OptStatus). active_by d (activated s.status)) e)
+    go None e = stays (activated s.status) (ap (λ (d : OptStatus). diff_by d (activated s.status)) e) refl (ap (λ (d : OptStatus). active_by d (activated s.status)) e)
+    go (Some x) e = both (activated s.status) (activated x) _ refl (ap (λ (d : OptStatus). diff_by d (activated s.status)) e) refl (ap (λ (d : OptStatus). active_by d (activated s.status)) e)
 
 -- ---- the law
 
@@ -211,17 +211,17 @@ with_status : (u : FugueSpan) (s : Status) (d : OptStatus) (r : OptId) → (with
 unfolding with_state
 with_status u s d r = refl
 
-with_item : (u : FugueSpan) (s : Status) (d : OptStatus) → item_of (with_state u s d u.real_id) ≡ item_of (with_state u s Opt.None u.real_id)
+with_item : (u : FugueSpan) (s : Status) (d : OptStatus) → item_of (with_state u s d u.real_id) ≡ item_of (with_state u s None u.real_id)
 unfolding item_of with_state real_of
 with_item u s d = refl
 
 -- the same of units, which a list of spans may have joined: the status of each at two versions, a as status and b as diff_status
 module _ (a b : FugueSpan → Status) where
   abbrev pub between : FugueSpan → FugueSpan
-  between u = with_state u (a u) (Opt.Some (b u)) u.real_id
+  between u = with_state u (a u) (Some (b u)) u.real_id
 
 abbrev pub standing : (FugueSpan → Status) → FugueSpan → FugueSpan
-standing f u = with_state u (f u) Opt.None u.real_id
+standing f u = with_state u (f u) None u.real_id
 
 module _ (a b : FugueSpan → Status) where
   pub old_same : (l : List FugueSpan) → items (map (between a b) l) ≡ items (map (standing a) l)
@@ -230,16 +230,16 @@ module _ (a b : FugueSpan → Status) where
   old_same (u ∷ l) = go (old_same l) (activated (a u)) refl
     where
       shown : activated (between a b u).status ≡ activated (a u)
-      shown = ap activated (with_status u (a u) (Opt.Some (b u)) u.real_id)
+      shown = ap activated (with_status u (a u) (Some (b u)) u.real_id)
 
       go : items (map (between a b) l) ≡ items (map (standing a) l) → (t : Bool) → activated (a u) ≡ t → items (map (between a b) (u ∷ l)) ≡ items (map (standing a) (u ∷ l))
       go on true e =
           items-cons (between a b u) (map (between a b) l) true (shown ∙ e)
-          ∙ (ap₂ (λ (x : Item) (m : List Item). x ∷ m) (with_item u (a u) (Opt.Some (b u))) on
-          ∙ sym (items-cons (standing a u) (map (standing a) l) true (ap activated (with_status u (a u) Opt.None u.real_id) ∙ e)))
+          ∙ (ap₂ (λ (x : Item) (m : List Item). x ∷ m) (with_item u (a u) (Some (b u))) on
+          ∙ sym (items-cons (standing a u) (map (standing a) l) true (ap activated (with_status u (a u) None u.real_id) ∙ e)))
       go on false e =
           items-cons (between a b u) (map (between a b) l) false (shown ∙ e)
-          ∙ (on ∙ sym (items-cons (standing a u) (map (standing a) l) false (ap activated (with_status u (a u) Opt.None u.real_id) ∙ e)))
+          ∙ (on ∙ sym (items-cons (standing a u) (map (standing a) l) false (ap activated (with_status u (a u) None u.real_id) ∙ e)))
 
   pub new_same : (l : List FugueSpan) → map new_unit (map (between a b) l) ≡ map (standing b) l
   unfolding new_unit with_state

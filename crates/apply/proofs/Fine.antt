@@ -8,8 +8,8 @@ use lib.Dec.{eqb}
 use lib.ListN.{length, length-append}
 use borrow.Author.Tests.{eqb-true, eqb-false, ne_eqb, le-leb}
 use mir.Facts.{to_z-of_z}
+use Rattle.std.specs.Prelude.{None, Some}
 use Rattle.span.specs.Maybe.{OptId}
-use Rattle.std.specs.Prelude as OptI
 use Rattle.span.specs.declared.span.FugueSpan.{FugueSpan}
 use Rattle.span.specs.declared.span.DiffStatus.{DiffStatus}
 use Rattle.span.specs.declared.span.DiffStatus.TheVariants.{NotChanged, Created, Deleted}
@@ -21,7 +21,6 @@ use Rattle.span.proofs.Views.{len_pos}
 use Rattle.units.specs.Lists.{every}
 use Rattle.rope.specs.Spans.{AllOk}
 use Rattle.units.specs.Maybe.{OptLamport}
-use Rattle.std.specs.Prelude.{None as Nothing, Some as At}
 use Rattle.units.specs.declared.diff.Entry.{Entry}
 use Rattle.units.specs.declared.diff.Entry.TheVariants.{Retain, Delete, Insert}
 use Rattle.units.specs.Delta.{lamport_of, insert_of_span, retain, entry_by, entries_from, entries, is_real, real_if_created, insertable}
@@ -52,19 +51,19 @@ fine_delete n z = record { said = refl; formed = refl; ids = refl; known = ap no
 
 module _ (s : FugueSpan) (ok : span_code s ≡ 0) where
   -- what comes in has a real id
-  real_known : is_real s.real_id ≡ true → room_opt (OptI.Some (real_of s)) (len_span s) ≡ true
+  real_known : is_real s.real_id ≡ true → room_opt (Some (real_of s)) (len_span s) ≡ true
   unfolding real_of
   real_known e = go s.real_id e (span_ok s ok).real
     where
-      go : (o : OptId) → is_real o ≡ true → room_opt o (len_span s) ≡ true → room_opt (OptI.Some (real_by o s.id)) (len_span s) ≡ true
-      go OptI.None r q = absurd (false≢true r)
-      go (OptI.Some i) r q = q
+      go : (o : OptId) → is_real o ≡ true → room_opt o (len_span s) ≡ true → room_opt (Some (real_by o s.id)) (len_span s) ≡ true
+      go None r q = absurd (false≢true r)
+      go (Some i) r q = q
 
   lamport_fits_lem : lamport_fits (lamport_of s) (len_span s) ≡ true
   unfolding lamport_fits lamport_of
   lamport_fits_lem = go (eqb s.id.peer UNKNOWN_PEER)
     where
-      go : (t : Bool) → lamport_fits (cond t Nothing (At s.lamport)) (len_span s) ≡ true
+      go : (t : Bool) → lamport_fits (cond t None (Some s.lamport)) (len_span s) ≡ true
       go true = refl
       go false = le-leb (s.lamport + len_span s) 4294967295 (span_ok s ok).lam
 
@@ -73,8 +72,8 @@ module _ (s : FugueSpan) (ok : span_code s ≡ 0) where
   insert_said = go (lamport_of s)
     where
       go : (l : OptLamport) → Said (Insert s.content (real_of s) l)
-      go Nothing = rw (to_z-of_z (room_fits (real_of s) (len_span s) (real_room s ok)))
-      go (At n) = rw (to_z-of_z (room_fits (real_of s) (len_span s) (real_room s ok)))
+      go None = rw (to_z-of_z (room_fits (real_of s) (len_span s) (real_room s ok)))
+      go (Some n) = rw (to_z-of_z (room_fits (real_of s) (len_span s) (real_room s ok)))
 
   fine_insert : is_real s.real_id ≡ true → Fine (insert_of_span s)
   unfolding insert_of_span entry_formed entry_ids entry_known

@@ -11,11 +11,11 @@ use lib.Pow.{are_bytes}
 use mir.Syntax.{w32}
 use mir.Val.{SFits}
 use borrow.Author.Tests.{ltb-true, eq-eqb}
+use Rattle.std.specs.Prelude.{None, Some}
 use Rattle.words.specs.Le.{le}
 use Rattle.span.specs.declared.chunk.RichtextChunk.{RichtextChunk}
 use Rattle.span.specs.declared.ids.Id.{Id}
 use Rattle.span.specs.Maybe.{OptId}
-use Rattle.std.specs.Prelude as OptI
 use Rattle.span.specs.declared.span.FugueSpan.{FugueSpan}
 use Rattle.span.specs.Chunk.{part_chunk, slice_code}
 use Rattle.span.specs.Ids.{inc_id, room_of, room_opt}
@@ -133,8 +133,8 @@ unfolding real_of
 real_room s ok = go s.real_id (span_ok s ok).real
   where
     go : (o : OptId) → room_opt o (len_span s) ≡ true → room_of (real_by o s.id) (len_span s) ≡ true
-    go OptI.None e = (span_ok s ok).own
-    go (OptI.Some i) e = room_opt_lem i (len_span s) e
+    go None e = (span_ok s ok).own
+    go (Some i) e = room_opt_lem i (len_span s) e
 
 pub room_fits : (i : Id) (n : ℕ) → room_of i n ≡ true → SFits w32 i.counter
 room_fits i n e =

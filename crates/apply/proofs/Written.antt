@@ -7,11 +7,11 @@ use native.Mathlib.Omega.{arith}
 use native.Mathlib.Nat.{zero-add}
 use lib.ListN.{length, take, drop, length-append, length-drop}
 use lib.Seq.{drop-drop, take_all}
+use Rattle.std.specs.Prelude.{Some}
 use Rattle.words.specs.Le.{put}
 use Rattle.words.proofs.Puts.{put-nil, length-put}
 use Rattle.span.specs.declared.chunk.RichtextChunk.{RichtextChunk}
 use Rattle.span.specs.declared.ids.Id.{Id}
-use Rattle.std.specs.Prelude as OptI
 use Rattle.span.specs.Chunk.{len_of, formed}
 use Rattle.span.specs.Ids.{room_of, room_opt}
 use Rattle.span.specs.declared.span.FugueSpan.{FugueSpan}
@@ -43,9 +43,9 @@ pub record InsertOk (c : RichtextChunk) (i : Id) : Type 0 where
 
 pub insert_ok : (c : RichtextChunk) (i : Id) (l : OptLamport) → insert_code c i l ≡ 0 → InsertOk c i
 unfolding insert_code
-insert_ok c i l q = go (formed c) (room_opt (OptI.Some i) (len_of c)) (lamport_fits l (len_of c)) refl refl refl q
+insert_ok c i l q = go (formed c) (room_opt (Some i) (len_of c)) (lamport_fits l (len_of c)) refl refl refl q
   where
-    go : (f r s : Bool) → formed c ≡ f → room_opt (OptI.Some i) (len_of c) ≡ r → lamport_fits l (len_of c) ≡ s → ◌≡◌ {A = ℕ} (cond f (cond (r && s) 0 2) 1) 0 → InsertOk c i
+    go : (f r s : Bool) → formed c ≡ f → room_opt (Some i) (len_of c) ≡ r → lamport_fits l (len_of c) ≡ s → ◌≡◌ {A = ℕ} (cond f (cond (r && s) 0 2) 1) 0 → InsertOk c i
     go false r s d e g z = absurd (omega arith)
     go true false s d e g z = absurd (omega arith)
     go true true false d e g z = absurd (omega arith)

@@ -7,9 +7,9 @@ use mathlib.Core.Bool.{Bool, cond}
 use mathlib.Core.List.Memᴰ
 use mathlib.Core.List.{List, [], ◌∷◌, ◌++◌, map}
 use lib.ListN.{length}
+use Rattle.std.specs.Prelude.{None, Some}
 use Rattle.span.specs.declared.ids.Id.{Id}
 use Rattle.span.specs.Maybe.{OptId}
-use Rattle.std.specs.Prelude.{None as Nothing, Some as At}
 use Rattle.span.specs.declared.span.FugueSpan.{FugueSpan}
 use Rattle.span.specs.Ids.{same_opt}
 use Rattle.units.specs.Place.{has_ol, parent_right}
@@ -70,17 +70,17 @@ unfolding has_ol
 has_ol_alike [] [] a r x = refl
 has_ol_alike [] (v ∷ m) a r x = absurd a
 has_ol_alike (u ∷ l) [] a r x = absurd a
-has_ol_alike (u ∷ l) (v ∷ m) a r x = λ i. cond (same_opt r (At (a.0.id i))) (same_opt (a.0.left i) x) (has_ol_alike l m a.1 r x i)
+has_ol_alike (u ∷ l) (v ∷ m) a r x = λ i. cond (same_opt r (Some (a.0.id i))) (same_opt (a.0.left i) x) (has_ol_alike l m a.1 r x i)
 
 pub pr_alike : (l m : List FugueSpan) → Alike l m → (x o : OptId) → parent_right l x o ≡ parent_right m x o
 unfolding parent_right
-pr_alike l m a x o = ap (λ (b : Bool). cond b o Nothing) (has_ol_alike l m a o x)
+pr_alike l m a x o = ap (λ (b : Bool). cond b o None) (has_ol_alike l m a o x)
 
 pub In-alike : (l m : List FugueSpan) → Alike l m → (r : OptId) → In r l → In r m
 In-alike l m a r (inl e) = inl e
 In-alike l m a r (inr t) =
     let s : (u : FugueSpan) × Mem u m × Same u t.0 = alike_mem m l (alike_sym l m a) t.0 t.1 in
-    inr (s.0, s.1, ap At s.2.id ∙ t.2)
+    inr (s.0, s.1, ap Some s.2.id ∙ t.2)
 
 pub sorted_alike : (key : OptId → Key) (l m : List FugueSpan) → Alike l m → Sorted key l → Sorted key m
 sorted_alike key [] [] a s = tt
@@ -89,7 +89,7 @@ sorted_alike key (u ∷ l) [] a s = absurd a
 sorted_alike key (u ∷ l) (v ∷ m) a s = (λ (w : FugueSpan) (k : Mem w m). go w (alike_mem l m a.1 w k), sorted_alike key l m a.1 s.1)
   where
     go : (w : FugueSpan) → (x : FugueSpan) × Mem x l × Same x w → Lt (key (ref v)) (key (ref w))
-    go w t = subst₂ (λ (i j : Id). Lt (key (At i)) (key (At j))) a.0.id t.2.id (s.0 t.0 t.1)
+    go w t = subst₂ (λ (i j : Id). Lt (key (Some i)) (key (Some j))) a.0.id t.2.id (s.0 t.0 t.1)
 
 pub good_alike : (key : OptId → Key) (l m : List FugueSpan) → Alike l m → Good key l → Good key m
 unfolding pr_of
@@ -117,11 +117,11 @@ good_alike key l m a g = record {
     or' w t = subst (λ (z : OptId). In z m) t.2.right (In-alike l m a (or t.0) (g.or_in t.0 t.1))
 
     ro' : (w : FugueSpan) → Was w → Lt (key (ref w)) [] → ⊥
-    ro' w t h = g.rooted t.0 t.1 (subst (λ (z : Id). Lt (key (At z)) []) (sym t.2.id) h)
+    ro' w t h = g.rooted t.0 t.1 (subst (λ (z : Id). Lt (key (Some z)) []) (sym t.2.id) h)
 
 -- ---- other keys
 
-hung_key : (key key' : OptId → Key) {x : OptId} {p : Id} {r : OptId} → Hung key x p r → key' x ≡ key x → key' (At p) ≡ key (At p) → key' r ≡ key r → Hung key' x p r
+hung_key : (key key' : OptId → Key) {x : OptId} {p : Id} {r : OptId} → Hung key x p r → key' x ≡ key x → key' (Some p) ≡ key (Some p) → key' r ≡ key r → Hung key' x p r
 hung_key key key' {x} {p} (hung_r e) ex em er = hung_r (em ∙ (e ∙ ap (λ (z : Key). z ++ sr p ∷ []) (sym ex)))
 hung_key key key' {x} {p} (hung_l s ms ir al er ek) ex em err =
     hung_l s ms ir al (err ∙ (er ∙ ap (λ (z : Key). z ++ s ∷ ms) (sym ex))) (em ∙ (ek ∙ ap (λ (z : Key). z ++ sl p ∷ []) (sym err)))
@@ -136,7 +136,7 @@ sorted_key key key' (v ∷ l) f s = (
 pub good_key : (key key' : OptId → Key) (l : List FugueSpan) → ((r : OptId) → In r l → key' r ≡ key r) → Good key l → Good key' l
 unfolding pr_of
 good_key key key' l f g = record {
-  none_key = f Nothing (inl refl) ∙ g.none_key;
+  none_key = f None (inl refl) ∙ g.none_key;
   sorted = sorted_key key key' l fu g.sorted;
   wf = λ (v : FugueSpan) (m : Mem v l). hung_key key key' (g.wf v m) (f (ol v) (g.ol_in v m)) (fu v m) (f (parent_right l (ol v) (or v)) (pr_in_lem key l g.sorted (ol v) (or v)));
   ol_in = g.ol_in;

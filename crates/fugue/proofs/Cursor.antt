@@ -6,8 +6,8 @@ use mathlib.Core.Bool.{Bool, true, false, cond}
 use mathlib.Core.List.Memᴰ
 use mathlib.Core.List.{List, [], ◌∷◌, ◌++◌}
 use lib.ListN.{length}
+use Rattle.std.specs.Prelude.{None}
 use Rattle.span.specs.Maybe.{OptId}
-use Rattle.std.specs.Prelude.{None as Nothing}
 use Rattle.span.specs.declared.span.FugueSpan.{FugueSpan}
 use Rattle.span.specs.Ids.{same_opt}
 use Rattle.span.specs.Status.{activated}
@@ -39,7 +39,7 @@ ends r (v ∷ F) = go (ends (ref v) F)
     go (e_last G u e d) = e_last (v ∷ G) u (ap (λ (z : List FugueSpan). v ∷ z) e) d
 
 pub data Past (R : List FugueSpan) (o : OptId) : Type 0 where
-  p_none : o ≡ Nothing → Past R o
+  p_none : o ≡ None → Past R o
   p_some : (M : List FugueSpan) (u : FugueSpan) (P : List FugueSpan) → R ≡ M ++ u ∷ P → ((w : FugueSpan) → Mem w M → w.status.future ≡ true) → u.status.future ≡ false → o ≡ ref u → Past R o
 
 pub past : (R : List FugueSpan) → Past R (first_past R)
@@ -56,7 +56,7 @@ past (v ∷ R) = go v.status.future refl (past R)
         go2 w (inl q) = ap (λ (z : FugueSpan). z.status.future) q ∙ e
         go2 w (inr m) = f w m
 
-pub up_to_none : (R : List FugueSpan) → up_to Nothing R ≡ R
+pub up_to_none : (R : List FugueSpan) → up_to None R ≡ R
 unfolding up_to same_opt
 up_to_none [] = refl
 up_to_none (v ∷ R) = ap (λ (z : List FugueSpan). v ∷ z) (up_to_none R)

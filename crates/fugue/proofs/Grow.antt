@@ -4,8 +4,8 @@ use mathlib.Core.Logic.{◌⊎◌, inl, inr}
 use mathlib.Core.Bool.{Bool, cond}
 use mathlib.Core.List.Memᴰ
 use mathlib.Core.List.{List, [], ◌∷◌, ◌++◌, append_assoc}
+use Rattle.std.specs.Prelude.{None}
 use Rattle.span.specs.Maybe.{OptId}
-use Rattle.std.specs.Prelude.{None as Nothing}
 use Rattle.span.specs.declared.span.FugueSpan.{FugueSpan}
 use Rattle.span.specs.Ids.{same_opt}
 use Rattle.units.specs.Place.{has_ol, parent_right}
@@ -77,9 +77,9 @@ module _ (key : OptId → Key) where
   In-rooted l g x (inl e) h = subst (λ (k : Key). Lt k []) (ap key e ∙ g.none_key) h
   In-rooted l g x (inr t) h = g.rooted t.0 t.1 (subst (λ (z : OptId). Lt (key z) []) (sym t.2) h)
 
-  pub In-id : (l : List FugueSpan) → Good key l → (x : OptId) → In x l → last_of Nothing (key x) ≡ x
-  In-id l g x (inl e) = ap (λ (z : OptId). last_of Nothing (key z)) e ∙ (ap (last_of Nothing) g.none_key ∙ sym e)
-  In-id l g x (inr t) = subst (λ (z : OptId). last_of Nothing (key z) ≡ z) t.2 (last_of_lem key (g.wf t.0 t.1))
+  pub In-id : (l : List FugueSpan) → Good key l → (x : OptId) → In x l → last_of None (key x) ≡ x
+  In-id l g x (inl e) = ap (λ (z : OptId). last_of None (key z)) e ∙ (ap (last_of None) g.none_key ∙ sym e)
+  In-id l g x (inr t) = subst (λ (z : OptId). last_of None (key z) ≡ z) t.2 (last_of_lem key (g.wf t.0 t.1))
 
   module _ (A B : List FugueSpan) (g : Good key (A ++ B)) (m : FugueSpan)
       (hung : Hung key (ol m) m.id (pr_of (A ++ B) m)) (iol : In (ol m) (A ++ B)) (ior : In (or m) (A ++ B))
@@ -91,7 +91,7 @@ module _ (key : OptId → Key) where
 
     same_pr : (v : FugueSpan) → In (or v) (A ++ B) → pr_of (A ++ B) v ≡ pr_of (A ++ m ∷ B) v
     unfolding pr_of parent_right
-    same_pr v i = ap (λ (b : Bool). cond b (or v) Nothing) (sym (has_ol_put A B m (or v) (ol v) (not_new (or v) i)))
+    same_pr v i = ap (λ (b : Bool). cond b (or v) None) (sym (has_ol_put A B m (or v) (ol v) (not_new (or v) i)))
 
     old : (v : FugueSpan) → Mid v A m B → Mem v (A ++ B) ⊎ (v ≡ m)
     old v (in_a k) = inl (Memᴰ.append_left B k)
@@ -134,7 +134,7 @@ module _ (key : OptId → Key) where
     }
 
 -- A unit that comes next in a span: right behind the unit before it, to which no unit's origin left points yet.
-module _ (key : OptId → Key) (A B : List FugueSpan) (u : FugueSpan) (g : Good key (A ++ u ∷ B)) (m : FugueSpan) (hung : Hung key (ref u) m.id Nothing)
+module _ (key : OptId → Key) (A B : List FugueSpan) (u : FugueSpan) (g : Good key (A ++ u ∷ B)) (m : FugueSpan) (hung : Hung key (ref u) m.id None)
     (last : (w : FugueSpan) → Mem w (A ++ u ∷ B) → ol w ≡ ref u → ⊥)
     (fresh : (w : FugueSpan) → Mem w (A ++ u ∷ B) → ref w ≡ ref m → ⊥) where
   in_u : Mem u (A ++ u ∷ B)
@@ -171,12 +171,12 @@ module _ (key : OptId → Key) (A B : List FugueSpan) (u : FugueSpan) (g : Good 
           (subst (λ (z : OptId). Lt (key z) (key (ref w))) (sym t.2) (after_ol key (g.wf w in_w))) (mid A t.1)
 
       go2 : (key (ref u) ≡ key (ol w)) ⊎ Lt (key (ref u)) (key (ol w)) → ⊥
-      go2 (inl d) = last w in_w (sym (In-id key (A ++ u ∷ B) g (ol w) (g.ol_in w in_w)) ∙ (ap (last_of Nothing) (sym d) ∙ last_of_lem key (g.wf u in_u)))
+      go2 (inl d) = last w in_w (sym (In-id key (A ++ u ∷ B) g (ol w) (g.ol_in w in_w)) ∙ (ap (last_of None) (sym d) ∙ last_of_lem key (g.wf u in_u)))
       go2 (inr k) = at_ol k (g.ol_in w in_w)
 
       go : Tri (Lt (key (ref m)) (key (ref w))) (key (ref m) ≡ key (ref w)) (Lt (key (ref w)) (key (ref m))) → Lt (key (ref m)) (key (ref w))
       go (tlt k) = k
-      go (teq d) = absurd (fresh w in_w (sym (last_of_lem key (g.wf w in_w)) ∙ (ap (last_of Nothing) (sym d) ∙ last_of_lem key hung)))
+      go (teq d) = absurd (fresh w in_w (sym (last_of_lem key (g.wf w in_w)) ∙ (ap (last_of None) (sym d) ∙ last_of_lem key hung)))
       go (tgt k) = absurd (go2 (F2 key hung (g.wf w in_w) uw k))
 
   pub next_hi : (w : FugueSpan) → Mem w B → Lt (key (ref m)) (key (ref w))

@@ -7,9 +7,9 @@ use mathlib.Core.List.{List, []}
 use lib.Dec.{eqb, ltb}
 use borrow.Author.Tests.{lt-ltb, le-ltb, eq-eqb, ne_eqb}
 use native.Mathlib.Omega.{arith}
+use Rattle.std.specs.Prelude.{None}
 use Rattle.span.specs.declared.ids.Id.{Id}
 use Rattle.span.specs.Maybe.{OptId}
-use Rattle.std.specs.Prelude.{None as Nothing}
 use Rattle.span.specs.declared.span.FugueSpan.{FugueSpan}
 use Rattle.span.specs.Ids.{same_opt}
 use Rattle.units.specs.declared.place.Verdict.{Verdict}
@@ -24,11 +24,11 @@ use Rattle.fugue.proofs.Tests.{Test, pass, fail, ltb_test, same_opt_test, mem_id
 
 -- Nothing, or a unit of the list
 abbrev pub In : OptId → List FugueSpan → Type 0
-In r l = (r ≡ Nothing) ⊎ ((w : FugueSpan) × Mem w l × (ref w ≡ r))
+In r l = (r ≡ None) ⊎ ((w : FugueSpan) × Mem w l × (ref w ≡ r))
 
 -- A list that is the walk, with the keys.
 pub record Good (key : OptId → Key) (l : List FugueSpan) : Type 0 where
-  pub none_key : key Nothing ≡ []
+  pub none_key : key None ≡ []
   pub sorted : Sorted key l
   pub wf : (v : FugueSpan) → Mem v l → Hung key (ol v) v.id (pr_of l v)
   pub ol_in : (v : FugueSpan) → Mem v l → In (ol v) l
@@ -39,9 +39,9 @@ pub pr_in_lem : (key : OptId → Key) (l : List FugueSpan) → Sorted key l → 
 unfolding parent_right
 pr_in_lem key l srt x o = go (has_ol_test key l o x srt)
   where
-    go : Test (has_ol l o x) ((w : FugueSpan) × Mem w l × (ref w ≡ o) × (ol w ≡ x)) → In (cond (has_ol l o x) o Nothing) l
-    go (pass e t) = inr (t.0, t.1, t.2 ∙ ap (λ (b : Bool). cond b o Nothing) (sym e))
-    go (fail e n) = inl (ap (λ (b : Bool). cond b o Nothing) e)
+    go : Test (has_ol l o x) ((w : FugueSpan) × Mem w l × (ref w ≡ o) × (ol w ≡ x)) → In (cond (has_ol l o x) o None) l
+    go (pass e t) = inr (t.0, t.1, t.2 ∙ ap (λ (b : Bool). cond b o None) (sym e))
+    go (fail e n) = inl (ap (λ (b : Bool). cond b o None) e)
 
 data Cmp (key : OptId → Key) (l : List FugueSpan) (a b : OptId) : Type 0 where
   c_lt : PLt key a b → ltb (pos_of l a) (pos_of l b) ≡ true → Cmp key l a b
@@ -50,7 +50,7 @@ data Cmp (key : OptId → Key) (l : List FugueSpan) (a b : OptId) : Type 0 where
 
 module _ (key : OptId → Key) (l : List FugueSpan) (g : Good key l) where
   ref_inj : (u w : FugueSpan) → Mem u l → Mem w l → key (ref u) ≡ key (ref w) → ref u ≡ ref w
-  ref_inj u w mu mw e = sym (last_of_lem key (g.wf u mu)) ∙ (ap (last_of Nothing) e ∙ last_of_lem key (g.wf w mw))
+  ref_inj u w mu mw e = sym (last_of_lem key (g.wf u mu)) ∙ (ap (last_of None) e ∙ last_of_lem key (g.wf w mw))
 
   cmp2 : (u w : FugueSpan) → Mem u l → Mem w l → Cmp key l (ref u) (ref w)
   cmp2 u w mu mw = go (tri (key (ref u)) (key (ref w)))
@@ -66,13 +66,13 @@ module _ (key : OptId → Key) (l : List FugueSpan) (g : Good key l) where
 
   cmp : (a b : OptId) → In a l → In b l → Cmp key l a b
   cmp a b (inl ea) (inl eb) = subst₂ (Cmp key l) (sym ea) (sym eb)
-      (c_eq refl (le-ltb (pos_of l Nothing) (pos_of l Nothing) (omega arith)) (eq-eqb (pos_of l Nothing) (pos_of l Nothing) refl))
+      (c_eq refl (le-ltb (pos_of l None) (pos_of l None) (omega arith)) (eq-eqb (pos_of l None) (pos_of l None) refl))
   cmp a b (inl ea) (inr t) =
-      let p : pos_of l (ref t.0) < pos_of l Nothing = subst (λ (n : ℕ). pos_of l (ref t.0) < n) (sym (pos_none l)) (pos_in l t.0 t.1) in
-      subst₂ (Cmp key l) (sym ea) t.2 (c_gt tt (le-ltb (pos_of l Nothing) (pos_of l (ref t.0)) (omega arith)) (ne_eqb (pos_of l Nothing) (pos_of l (ref t.0)) (λ (d : pos_of l Nothing ≡ pos_of l (ref t.0)). omega arith)))
+      let p : pos_of l (ref t.0) < pos_of l None = subst (λ (n : ℕ). pos_of l (ref t.0) < n) (sym (pos_none l)) (pos_in l t.0 t.1) in
+      subst₂ (Cmp key l) (sym ea) t.2 (c_gt tt (le-ltb (pos_of l None) (pos_of l (ref t.0)) (omega arith)) (ne_eqb (pos_of l None) (pos_of l (ref t.0)) (λ (d : pos_of l None ≡ pos_of l (ref t.0)). omega arith)))
   cmp a b (inr t) (inl eb) =
-      let p : pos_of l (ref t.0) < pos_of l Nothing = subst (λ (n : ℕ). pos_of l (ref t.0) < n) (sym (pos_none l)) (pos_in l t.0 t.1) in
-      subst₂ (Cmp key l) t.2 (sym eb) (c_lt tt (lt-ltb (pos_of l (ref t.0)) (pos_of l Nothing) p))
+      let p : pos_of l (ref t.0) < pos_of l None = subst (λ (n : ℕ). pos_of l (ref t.0) < n) (sym (pos_none l)) (pos_in l t.0 t.1) in
+      subst₂ (Cmp key l) t.2 (sym eb) (c_lt tt (lt-ltb (pos_of l (ref t.0)) (pos_of l None) p))
   cmp a b (inr t) (inr s) = subst₂ (Cmp key l) t.2 s.2 (cmp2 t.0 s.0 t.1 s.1)
 
   module _ (me : Id) (x o : OptId) where

@@ -7,9 +7,9 @@ use mathlib.Core.Bool.{Bool, false, cond}
 use mathlib.Core.List.Memᴰ
 use mathlib.Core.List.{List, [], ◌∷◌, ◌++◌, append_assoc}
 use native.Mathlib.Omega.{arith}
+use Rattle.std.specs.Prelude.{None, Some}
 use Rattle.span.specs.declared.ids.Id.{Id}
 use Rattle.span.specs.Maybe.{OptId}
-use Rattle.std.specs.Prelude.{None as Nothing, Some as At}
 use Rattle.span.specs.declared.span.FugueSpan.{FugueSpan}
 use Rattle.span.specs.Ids.{inc_id}
 use Rattle.span.proofs.IdsLaws.{inc_zero}
@@ -28,13 +28,13 @@ use Rattle.fugue.proofs.Cursor.{front-behind, Ends, ends, Past, past, put_at_sea
 use Rattle.fugue.proofs.Range.{Placed, placed, x_in}
 
 -- no unit has m's origin left: so m has no parent right
-no_ol_no_pr : (key : OptId → Key) (l : List FugueSpan) → Sorted key l → (m : FugueSpan) → ((w : FugueSpan) → Mem w l → ol w ≡ ol m → ⊥) → pr_of l m ≡ Nothing
+no_ol_no_pr : (key : OptId → Key) (l : List FugueSpan) → Sorted key l → (m : FugueSpan) → ((w : FugueSpan) → Mem w l → ol w ≡ ol m → ⊥) → pr_of l m ≡ None
 unfolding pr_of parent_right
 no_ol_no_pr key l s m n = go (has_ol_test key l (or m) (ol m) s)
   where
-    go : Test (has_ol l (or m) (ol m)) ((w : FugueSpan) × Mem w l × (ref w ≡ or m) × (ol w ≡ ol m)) → cond (has_ol l (or m) (ol m)) (or m) Nothing ≡ Nothing
+    go : Test (has_ol l (or m) (ol m)) ((w : FugueSpan) × Mem w l × (ref w ≡ or m) × (ol w ≡ ol m)) → cond (has_ol l (or m) (ol m)) (or m) None ≡ None
     go (pass e t) = absurd (n t.0 t.1 t.3)
-    go (fail e t) = ap (λ (b : Bool). cond b (or m) Nothing) e
+    go (fail e t) = ap (λ (b : Bool). cond b (or m) None) e
 
 old : {A B : List FugueSpan} {m w : FugueSpan} → Mid w A m B → Mem w (A ++ B) ⊎ (w ≡ m)
 old {A} {B} (in_a k) = inl (Memᴰ.append_left B k)
@@ -47,7 +47,7 @@ module _ (key : OptId → Key) (y : FugueSpan) where
   chain : (n k : ℕ) (A B : List FugueSpan) → Good key (A ++ unit_at y k ∷ B) → In (or y) (A ++ unit_at y k ∷ B)
       → ((w : FugueSpan) → Mem w (A ++ unit_at y k ∷ B) → ol w ≡ ref (unit_at y k) → ⊥)
       → ((w : FugueSpan) → Mem w (A ++ unit_at y k ∷ B) → Older w.id (inc_id y.id (suc k)))
-      → ((j : ℕ) → k ≤ j → j < k + n → Hung key (At (inc_id y.id j)) (inc_id y.id (suc j)) Nothing)
+      → ((j : ℕ) → k ≤ j → j < k + n → Hung key (Some (inc_id y.id j)) (inc_id y.id (suc j)) None)
       → Good key (A ++ unit_at y k ∷ (tab (unit_at y) (suc k) n ++ B))
   unfolding tab shift left_of
   chain zero k A B g io last newest hungs = g
@@ -73,10 +73,10 @@ module _ (key : OptId → Key) (y : FugueSpan) where
       io1 : In (or y) ((A ++ u ∷ []) ++ B)
       io1 = subst (λ (z : List FugueSpan). In (or y) z) e io
 
-      hung : Hung key (ref u) m.id Nothing
+      hung : Hung key (ref u) m.id None
       hung = hungs k (omega arith) (omega arith)
 
-      no_pr : pr_of ((A ++ u ∷ []) ++ B) m ≡ Nothing
+      no_pr : pr_of ((A ++ u ∷ []) ++ B) m ≡ None
       no_pr = no_ol_no_pr key ((A ++ u ∷ []) ++ B) g1.sorted m (λ (w : FugueSpan) (h : Mem w ((A ++ u ∷ []) ++ B)) (d : ol w ≡ ref u). last w (in_old w h) d)
 
       fresh : (w : FugueSpan) → Mem w (A ++ u ∷ B) → ref w ≡ ref m → ⊥
@@ -105,7 +105,7 @@ module _ (key : OptId → Key) (y : FugueSpan) where
       last3 : (w : FugueSpan) → ol w ≡ ref m → Mem w ((A ++ u ∷ []) ++ B) ⊎ (w ≡ m) → ⊥
       last3 w d (inl h) = ol_not (ol w) d (g.ol_in w (in_old w h))
       last3 w d (inr h) =
-          let f : At (inc_id y.id k) ≡ At (inc_id y.id (suc k)) = ap ol (sym h) ∙ d in
+          let f : Some (inc_id y.id k) ≡ Some (inc_id y.id (suc k)) = ap ol (sym h) ∙ d in
           older_no (inc_id y.id k) (inc_id y.id (suc k)) (inc_older y.id k) (let z : inc_id y.id k ≡ inc_id y.id (suc k) = cc in z)
 
       last2 : (w : FugueSpan) → Mem w ((A ++ u ∷ []) ++ m ∷ B) → ol w ≡ ref m → ⊥
@@ -121,12 +121,12 @@ module _ (key : OptId → Key) (y : FugueSpan) where
 -- A good list, its statuses closed under origin left; a span whose first id is past all of its peer's, with keys that hang as the computed
 -- origins say. Then the rope's insert leaves a good list.
 module _ (key : OptId → Key) (l : List FugueSpan) (g : Good key l) (pos : ℕ) (s : FugueSpan)
-    (past-closed : (v : FugueSpan) → Mem v l → v.status.future ≡ false → (ol v ≡ Nothing) ⊎ ((w : FugueSpan) × Mem w l × (ref w ≡ ol v) × (w.status.future ≡ false)))
+    (past-closed : (v : FugueSpan) → Mem v l → v.status.future ≡ false → (ol v ≡ None) ⊎ ((w : FugueSpan) × Mem w l × (ref w ≡ ol v) × (w.status.future ≡ false)))
     (newest : (w : FugueSpan) → Mem w l → Older w.id s.id)
     (hung : Hung key (origin_left pos l) s.id (parent_right l (origin_left pos l) (origin_right pos l)))
-    (hungs : (j : ℕ) → suc j < len_span s → Hung key (At (inc_id s.id j)) (inc_id s.id (suc j)) Nothing) where
+    (hungs : (j : ℕ) → suc j < len_span s → Hung key (Some (inc_id s.id j)) (inc_id s.id (suc j)) None) where
   -- over the two parts of the list
-  parts : (n : ℕ) → len_span s ≡ suc n → (F R : List FugueSpan) → F ++ R ≡ l → (x o : OptId) → Ends Nothing F x → Past R o → Hung key x (inc_id s.id 0) (parent_right l x o)
+  parts : (n : ℕ) → len_span s ≡ suc n → (F R : List FugueSpan) → F ++ R ≡ l → (x o : OptId) → Ends None F x → Past R o → Hung key x (inc_id s.id 0) (parent_right l x o)
       → Good key (F ++ put_at (scan_place l R x o s.id.peer) (units_of (with_origins s x o)) R)
   unfolding tab units_of with_origins shift left_of inc_id pr_of
   parts n len F R e x o ex pa hu = subst (λ (z : List FugueSpan). Good key z) (sym shape) spanned
@@ -140,8 +140,8 @@ module _ (key : OptId → Key) (l : List FugueSpan) (g : Good key l) (pos : ℕ)
       g_f : Good key (F ++ R)
       g_f = subst (λ (z : List FugueSpan). Good key z) (sym e) g
 
-      pc : (v : FugueSpan) → Mem v (F ++ R) → v.status.future ≡ false → (ol v ≡ Nothing) ⊎ ((w : FugueSpan) × Mem w (F ++ R) × (ref w ≡ ol v) × (w.status.future ≡ false))
-      pc = subst (λ (z : List FugueSpan). (v : FugueSpan) → Mem v z → v.status.future ≡ false → (ol v ≡ Nothing) ⊎ ((w : FugueSpan) × Mem w z × (ref w ≡ ol v) × (w.status.future ≡ false))) (sym e) past-closed
+      pc : (v : FugueSpan) → Mem v (F ++ R) → v.status.future ≡ false → (ol v ≡ None) ⊎ ((w : FugueSpan) × Mem w (F ++ R) × (ref w ≡ ol v) × (w.status.future ≡ false))
+      pc = subst (λ (z : List FugueSpan). (v : FugueSpan) → Mem v z → v.status.future ≡ false → (ol v ≡ None) ⊎ ((w : FugueSpan) × Mem w z × (ref w ≡ ol v) × (w.status.future ≡ false))) (sym e) past-closed
 
       nw : (w : FugueSpan) → Mem w (F ++ R) → Older w.id m.id
       nw w k = subst (λ (z : Id). Older w.id z) (sym (inc_zero s.id)) (newest w (subst (λ (z : List FugueSpan). Mem w z) e k))
@@ -213,5 +213,5 @@ module _ (key : OptId → Key) (l : List FugueSpan) (g : Good key l) (pos : ℕ)
 
   pub insert_good : 0 < len_span s → Good key (insert_units pos s l)
   unfolding insert_units origin_left origin_right
-  insert_good some = parts (len_span s - 1) (omega arith) (front l pos) (behind l pos) (front-behind l pos) (last_id Nothing (front l pos)) (first_past (behind l pos))
-      (ends Nothing (front l pos)) (past (behind l pos)) (subst (λ (z : Id). Hung key (origin_left pos l) z (parent_right l (origin_left pos l) (origin_right pos l))) (sym (inc_zero s.id)) hung)
+  insert_good some = parts (len_span s - 1) (omega arith) (front l pos) (behind l pos) (front-behind l pos) (last_id None (front l pos)) (first_past (behind l pos))
+      (ends None (front l pos)) (past (behind l pos)) (subst (λ (z : Id). Hung key (origin_left pos l) z (parent_right l (origin_left pos l) (origin_right pos l))) (sym (inc_zero s.id)) hung)

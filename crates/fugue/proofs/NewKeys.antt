@@ -7,9 +7,9 @@ use mathlib.Core.List.{List, [], ◌∷◌, ◌++◌}
 use native.Mathlib.Omega.{arith}
 use native.Mathlib.Decide.{dec_lt}
 use lib.ListN.{length, length-append}
+use Rattle.std.specs.Prelude.{None, Some}
 use Rattle.span.specs.declared.ids.Id.{Id}
 use Rattle.span.specs.Maybe.{OptId}
-use Rattle.std.specs.Prelude.{None as Nothing, Some as At}
 use Rattle.span.specs.declared.span.FugueSpan.{FugueSpan}
 use Rattle.span.specs.Ids.{inc_id, same_opt}
 use Rattle.span.proofs.IdsLaws.{inc_zero}
@@ -32,7 +32,7 @@ inc_less i j (suc k) h = go (dec_lt j k) (inc_less i j k)
     go (yes y) ih = older_inc (inc_id i j) i k (ih y)
     go (no n) ih = subst (λ (z : ℕ). Older (inc_id i z) (inc_id i (suc k))) (let e : k ≡ j = omega arith in e) (inc_older i k)
 
-pub inc_apart : (i : Id) (j k : ℕ) → j < k → At (inc_id i j) ≡ At (inc_id i k) → ⊥
+pub inc_apart : (i : Id) (j k : ℕ) → j < k → Some (inc_id i j) ≡ Some (inc_id i k) → ⊥
 inc_apart i j k h e = older_no (inc_id i j) (inc_id i k) (inc_less i j k h) (let d : inc_id i j ≡ inc_id i k = cc in d)
 
 pub older_far : (a i : Id) (k : ℕ) → Older a i → Older a (inc_id i k)
@@ -47,34 +47,34 @@ span_key i f (suc k) = span_key i f k ++ sr (inc_id i (suc k)) ∷ []
 -- the keys with those of the n units of a span
 unfoldable pub new_key : (OptId → Key) → Id → Key → ℕ → OptId → Key
 new_key key i f zero r = key r
-new_key key i f (suc n) r = cond (same_opt r (At (inc_id i n))) (span_key i f n) (new_key key i f n r)
+new_key key i f (suc n) r = cond (same_opt r (Some (inc_id i n))) (span_key i f n) (new_key key i f n r)
 
 -- what the first unit's key must be
 unfoldable pub first_key : (OptId → Key) → Id → OptId → OptId → Key
-first_key key i x Nothing = key x ++ sr i ∷ []
-first_key key i x (At r) = key (At r) ++ sl i ∷ []
+first_key key i x None = key x ++ sr i ∷ []
+first_key key i x (Some r) = key (Some r) ++ sl i ∷ []
 
-pub new_key_new : (key : OptId → Key) (i : Id) (f : Key) (n k : ℕ) → k < n → new_key key i f n (At (inc_id i k)) ≡ span_key i f k
+pub new_key_new : (key : OptId → Key) (i : Id) (f : Key) (n k : ℕ) → k < n → new_key key i f n (Some (inc_id i k)) ≡ span_key i f k
 unfolding new_key
 new_key_new key i f zero k h = absurd (let z : ⊥ = omega arith in z)
-new_key_new key i f (suc n) k h = go (same_opt_test (At (inc_id i k)) (At (inc_id i n))) (dec_lt k n) (new_key_new key i f n k)
+new_key_new key i f (suc n) k h = go (same_opt_test (Some (inc_id i k)) (Some (inc_id i n))) (dec_lt k n) (new_key_new key i f n k)
   where
     P : Bool → Key
-    P b = cond b (span_key i f n) (new_key key i f n (At (inc_id i k)))
+    P b = cond b (span_key i f n) (new_key key i f n (Some (inc_id i k)))
 
-    go : Test (same_opt (At (inc_id i k)) (At (inc_id i n))) (At (inc_id i k) ≡ At (inc_id i n)) → Dec (k < n) → (k < n → new_key key i f n (At (inc_id i k)) ≡ span_key i f k)
-        → P (same_opt (At (inc_id i k)) (At (inc_id i n))) ≡ span_key i f k
+    go : Test (same_opt (Some (inc_id i k)) (Some (inc_id i n))) (Some (inc_id i k) ≡ Some (inc_id i n)) → Dec (k < n) → (k < n → new_key key i f n (Some (inc_id i k)) ≡ span_key i f k)
+        → P (same_opt (Some (inc_id i k)) (Some (inc_id i n))) ≡ span_key i f k
     go (pass e d) (yes y) ih = absurd (inc_apart i k n y d)
     go (pass e d) (no y) ih = ap P e ∙ ap (span_key i f) (let z : n ≡ k = omega arith in z)
     go (fail e d) (yes y) ih = ap P e ∙ ih y
-    go (fail e d) (no y) ih = absurd (d (ap (λ (j : ℕ). At (inc_id i j)) (let z : k ≡ n = omega arith in z)))
+    go (fail e d) (no y) ih = absurd (d (ap (λ (j : ℕ). Some (inc_id i j)) (let z : k ≡ n = omega arith in z)))
 
-new_key_old : (key : OptId → Key) (i : Id) (f : Key) (n : ℕ) (r : OptId) → ((k : ℕ) → r ≡ At (inc_id i k) → ⊥) → new_key key i f n r ≡ key r
+new_key_old : (key : OptId → Key) (i : Id) (f : Key) (n : ℕ) (r : OptId) → ((k : ℕ) → r ≡ Some (inc_id i k) → ⊥) → new_key key i f n r ≡ key r
 unfolding new_key
 new_key_old key i f zero r h = refl
-new_key_old key i f (suc n) r h = go (same_opt_test r (At (inc_id i n))) (new_key_old key i f n r h)
+new_key_old key i f (suc n) r h = go (same_opt_test r (Some (inc_id i n))) (new_key_old key i f n r h)
   where
-    go : Test (same_opt r (At (inc_id i n))) (r ≡ At (inc_id i n)) → new_key key i f n r ≡ key r → cond (same_opt r (At (inc_id i n))) (span_key i f n) (new_key key i f n r) ≡ key r
+    go : Test (same_opt r (Some (inc_id i n))) (r ≡ Some (inc_id i n)) → new_key key i f n r ≡ key r → cond (same_opt r (Some (inc_id i n))) (span_key i f n) (new_key key i f n r) ≡ key r
     go (pass e d) ih = absurd (h n d)
     go (fail e d) ih = ap (λ (b : Bool). cond b (span_key i f n) (new_key key i f n r)) e ∙ ih
 
@@ -85,8 +85,8 @@ span_key-length i f (suc k) = length-append (span_key i f k) (sr (inc_id i (suc 
 
 pub first_key-length : (key : OptId → Key) (i : Id) (x r : OptId) (b : ℕ) → length (key x) ≤ b → length (key r) ≤ b → length (first_key key i x r) ≤ suc b
 unfolding first_key
-first_key-length key i x Nothing b h k = omega (arith, length-append (key x) (sr i ∷ []))
-first_key-length key i x (At r) b h k = omega (arith, length-append (key (At r)) (sl i ∷ []))
+first_key-length key i x None b h k = omega (arith, length-append (key x) (sr i ∷ []))
+first_key-length key i x (Some r) b h k = omega (arith, length-append (key (Some r)) (sl i ∷ []))
 
 -- A span of suc n units from id i with origins x, o; every unit of its peer is older.
 module _ (key : OptId → Key) (l : List FugueSpan) (g : Good key l) (i : Id) (n : ℕ) (x o : OptId) (ix : In x l)
@@ -95,20 +95,20 @@ module _ (key : OptId → Key) (l : List FugueSpan) (g : Good key l) (i : Id) (n
   key_of r = new_key key i (first_key key i x (parent_right l x o)) (suc n) r
 
   old : (f : Key) (r : OptId) → In r l → new_key key i f (suc n) r ≡ key r
-  old f r (inl e) = new_key_old key i f (suc n) r (λ (k : ℕ) (d : r ≡ At (inc_id i k)). none≢at (sym e ∙ d))
-  old f r (inr t) = new_key_old key i f (suc n) r (λ (k : ℕ) (d : r ≡ At (inc_id i k)). clash k (t.2 ∙ d))
+  old f r (inl e) = new_key_old key i f (suc n) r (λ (k : ℕ) (d : r ≡ Some (inc_id i k)). none≢at (sym e ∙ d))
+  old f r (inr t) = new_key_old key i f (suc n) r (λ (k : ℕ) (d : r ≡ Some (inc_id i k)). clash k (t.2 ∙ d))
     where
-      clash : (k : ℕ) → ref t.0 ≡ At (inc_id i k) → ⊥
+      clash : (k : ℕ) → ref t.0 ≡ Some (inc_id i k) → ⊥
       clash k d = older_no t.0.id (inc_id i k) (older_far t.0.id i k (newest t.0 t.1)) (let z : t.0.id ≡ inc_id i k = cc in z)
 
-  first : (f : Key) → new_key key i f (suc n) (At i) ≡ f
-  first f = ap (λ (z : Id). new_key key i f (suc n) (At z)) (sym (inc_zero i)) ∙ (new_key_new key i f (suc n) 0 (omega arith) ∙ (unfold span_key in refl))
+  first : (f : Key) → new_key key i f (suc n) (Some i) ≡ f
+  first f = ap (λ (z : Id). new_key key i f (suc n) (Some z)) (sym (inc_zero i)) ∙ (new_key_new key i f (suc n) 0 (omega arith) ∙ (unfold span_key in refl))
 
   pub key_of_old : (r : OptId) → In r l → key_of r ≡ key r
   unfolding key_of
   key_of_old r h = old (first_key key i x (parent_right l x o)) r h
 
-  pub key_of_new : (k : ℕ) → k < suc n → key_of (At (inc_id i k)) ≡ span_key i (first_key key i x (parent_right l x o)) k
+  pub key_of_new : (k : ℕ) → k < suc n → key_of (Some (inc_id i k)) ≡ span_key i (first_key key i x (parent_right l x o)) k
   unfolding key_of
   key_of_new k h = new_key_new key i (first_key key i x (parent_right l x o)) (suc n) k h
 
@@ -123,23 +123,23 @@ module _ (key : OptId → Key) (l : List FugueSpan) (g : Good key l) (i : Id) (n
       N : OptId → Type 0
       N r = Hung (new_key key i (first_key key i x r) (suc n)) x i r
 
-      none_c : new_key key i (first_key key i x Nothing) (suc n) (At i) ≡ first_key key i x Nothing → new_key key i (first_key key i x Nothing) (suc n) x ≡ key x → N Nothing
+      none_c : new_key key i (first_key key i x None) (suc n) (Some i) ≡ first_key key i x None → new_key key i (first_key key i x None) (suc n) x ≡ key x → N None
       none_c e1 e2 = hung_r (e1 ∙ (unfold first_key in ap (λ (z : Key). z ++ sr i ∷ []) (sym e2)))
 
-      some_c : (w : FugueSpan) → Mem w l → ol w ≡ x → new_key key i (first_key key i x (ref w)) (suc n) (At i) ≡ first_key key i x (ref w)
+      some_c : (w : FugueSpan) → Mem w l → ol w ≡ x → new_key key i (first_key key i x (ref w)) (suc n) (Some i) ≡ first_key key i x (ref w)
           → new_key key i (first_key key i x (ref w)) (suc n) x ≡ key x → new_key key i (first_key key i x (ref w)) (suc n) (ref w) ≡ key (ref w) → N (ref w)
       some_c w m d e1 e2 e3 =
           let b : Below key (ol w) w.id = below key (g.wf w m) in
           hung_l b.s b.ls b.right b.lefts (e3 ∙ (b.shape ∙ ap (λ (z : Key). z ++ b.s ∷ b.ls) (ap key d ∙ sym e2)))
           (e1 ∙ (unfold first_key in ap (λ (z : Key). z ++ sl i ∷ []) (sym e3)))
 
-      go : Test (has_ol l o x) ((w : FugueSpan) × Mem w l × (ref w ≡ o) × (ol w ≡ x)) → N (cond (has_ol l o x) o Nothing)
-      go (pass e t) = subst N (t.2 ∙ ap (λ (b : Bool). cond b o Nothing) (sym e))
+      go : Test (has_ol l o x) ((w : FugueSpan) × Mem w l × (ref w ≡ o) × (ol w ≡ x)) → N (cond (has_ol l o x) o None)
+      go (pass e t) = subst N (t.2 ∙ ap (λ (b : Bool). cond b o None) (sym e))
           (some_c t.0 t.1 t.3 (first (first_key key i x (ref t.0))) (old (first_key key i x (ref t.0)) x ix)
           (old (first_key key i x (ref t.0)) (ref t.0) (inr (t.0, t.1, refl))))
-      go (fail e m) = subst N (ap (λ (b : Bool). cond b o Nothing) (sym e)) (none_c (first (first_key key i x Nothing)) (old (first_key key i x Nothing) x ix))
+      go (fail e m) = subst N (ap (λ (b : Bool). cond b o None) (sym e)) (none_c (first (first_key key i x None)) (old (first_key key i x None) x ix))
 
   -- and each later one below the one before
-  pub hungs_new : (k : ℕ) → suc k < suc n → Hung key_of (At (inc_id i k)) (inc_id i (suc k)) Nothing
+  pub hungs_new : (k : ℕ) → suc k < suc n → Hung key_of (Some (inc_id i k)) (inc_id i (suc k)) None
   unfolding span_key
   hungs_new k h = hung_r (key_of_new (suc k) h ∙ ap (λ (a : Key). a ++ sr (inc_id i (suc k)) ∷ []) (sym (key_of_new k (omega arith))))

@@ -7,8 +7,8 @@ use mathlib.Core.List.Memᴰ
 use mathlib.Core.List.{List, [], ◌∷◌}
 use lib.IntN.{pos}
 use native.Mathlib.Omega.{arith}
+use Rattle.std.specs.Prelude.{None}
 use Rattle.span.specs.Maybe.{OptId}
-use Rattle.std.specs.Prelude.{None as Nothing}
 use Rattle.span.specs.declared.span.FugueSpan.{FugueSpan}
 use Rattle.span.specs.Status.{activated, eq_z}
 use Rattle.units.specs.Place.{front, behind, last_id, first_past, origin_left, origin_right, shown}
@@ -26,7 +26,7 @@ past_of l = keep_if not_future l
 
 -- the visible unit number n, from 0
 unfoldable pub nth : List FugueSpan → ℕ → OptId
-nth [] n = Nothing
+nth [] n = None
 nth (v ∷ l) zero = cond (activated v.status) (ref v) (nth l zero)
 nth (v ∷ l) (suc n) = nth l (cond (activated v.status) n (suc n))
 
@@ -100,8 +100,8 @@ nth_past (v ∷ l) n = go v.status.future refl n (nth_past l)
 -- L6.2: the origin left
 pub origin_left_past : (l : List FugueSpan) (n : ℕ) → n ≤ shown l → origin_left n l ≡ origin_left n (past_of l)
 unfolding origin_left
-origin_left_past l zero h = ap (last_id Nothing) (front_zero l ∙ sym (front_zero (past_of l)))
-origin_left_past l (suc n) h = last_nth l n Nothing h ∙ (nth_past l n ∙ sym (last_nth (past_of l) n Nothing (subst (λ (k : ℕ). suc n ≤ k) (shown_past l) h)))
+origin_left_past l zero h = ap (last_id None) (front_zero l ∙ sym (front_zero (past_of l)))
+origin_left_past l (suc n) h = last_nth l n None h ∙ (nth_past l n ∙ sym (last_nth (past_of l) n None (subst (λ (k : ℕ). suc n ≤ k) (shown_past l) h)))
 
 -- what is behind the cursor
 pub behind_past : (l : List FugueSpan) (n : ℕ) → past_of (behind l n) ≡ behind (past_of l) n
@@ -181,7 +181,7 @@ nth_in (v ∷ l) n h = go (activated v.status) refl n h (nth_in l)
     go false e zero h ih = up zero zero (unfold nth_step in sym (step false zero e)) (ih zero h)
     go false e (suc n) h ih = up (suc n) (suc n) (unfold nth_step in sym (step false (suc n) e)) (ih (suc n) h)
 
-pub origin_left_in : (l : List FugueSpan) (n : ℕ) → n ≤ shown l → (origin_left n l ≡ Nothing) ⊎ ((w : FugueSpan) × Mem w l × (ref w ≡ origin_left n l) × (w.status.future ≡ false))
+pub origin_left_in : (l : List FugueSpan) (n : ℕ) → n ≤ shown l → (origin_left n l ≡ None) ⊎ ((w : FugueSpan) × Mem w l × (ref w ≡ origin_left n l) × (w.status.future ≡ false))
 unfolding origin_left last_id
-origin_left_in l zero h = inl (ap (last_id Nothing) (front_zero l))
-origin_left_in l (suc n) h = let t : (w : FugueSpan) × Mem w l × (ref w ≡ nth l n) × (w.status.future ≡ false) = nth_in l n h in inr (t.0, t.1, t.2 ∙ sym (last_nth l n Nothing h), t.3)
+origin_left_in l zero h = inl (ap (last_id None) (front_zero l))
+origin_left_in l (suc n) h = let t : (w : FugueSpan) × Mem w l × (ref w ≡ nth l n) × (w.status.future ≡ false) = nth_in l n h in inr (t.0, t.1, t.2 ∙ sym (last_nth l n None h), t.3)

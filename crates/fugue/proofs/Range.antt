@@ -5,9 +5,9 @@ use mathlib.Core.Bool.{Bool, true, false, cond, true≢false}
 use mathlib.Core.List.Memᴰ
 use mathlib.Core.List.{List, [], ◌∷◌, ◌++◌, append_assoc, append-nil}
 use lib.ListN.{length}
+use Rattle.std.specs.Prelude.{None, Some}
 use Rattle.span.specs.declared.ids.Id.{Id}
 use Rattle.span.specs.Maybe.{OptId}
-use Rattle.std.specs.Prelude.{None as Nothing, Some as At}
 use Rattle.span.specs.declared.span.FugueSpan.{FugueSpan}
 use Rattle.units.specs.declared.place.Verdict.{Verdict}
 use Rattle.units.specs.Place.{has_ol, pr_pos, parent_right, verdict, run, up_to, scan_place}
@@ -23,24 +23,24 @@ use Rattle.fugue.proofs.Cursor.{Ends, e_nil, e_last, Past, p_none, p_some, up_to
 
 -- ---- the first unit, by the scan
 
-module _ (key : OptId → Key) (F R : List FugueSpan) (g : Good key (F ++ R)) (x : OptId) (ex : Ends Nothing F x) (me : Id)
-    (past-closed : (v : FugueSpan) → Mem v (F ++ R) → v.status.future ≡ false → (ol v ≡ Nothing) ⊎ ((w : FugueSpan) × Mem w (F ++ R) × (ref w ≡ ol v) × (w.status.future ≡ false)))
+module _ (key : OptId → Key) (F R : List FugueSpan) (g : Good key (F ++ R)) (x : OptId) (ex : Ends None F x) (me : Id)
+    (past-closed : (v : FugueSpan) → Mem v (F ++ R) → v.status.future ≡ false → (ol v ≡ None) ⊎ ((w : FugueSpan) × Mem w (F ++ R) × (ref w ≡ ol v) × (w.status.future ≡ false)))
     (newest : (w : FugueSpan) → Mem w (F ++ R) → Older w.id me) where
   pub x_in : In x (F ++ R)
   x_in = go ex
     where
-      go : Ends Nothing F x → In x (F ++ R)
+      go : Ends None F x → In x (F ++ R)
       go (e_nil e d) = inl d
       go (e_last G u e d) = inr (u, Memᴰ.append_left R (subst (λ (z : List FugueSpan). Mem u z) (sym e) (Memᴰ.append_right G (Memᴰ.head refl))), sym d)
 
-  fresh : (w : FugueSpan) → Mem w (F ++ R) → ref w ≡ At me → ⊥
+  fresh : (w : FugueSpan) → Mem w (F ++ R) → ref w ≡ Some me → ⊥
   fresh w m e = older_no w.id me (newest w m) (let d : w.id ≡ me = cc in d)
 
   -- the front is x and before
   front_x : (w : FugueSpan) → Mem w F → (ref w ≡ x) ⊎ Lt (key (ref w)) (key x)
   front_x w m = go ex
     where
-      go : Ends Nothing F x → (ref w ≡ x) ⊎ Lt (key (ref w)) (key x)
+      go : Ends None F x → (ref w ≡ x) ⊎ Lt (key (ref w)) (key x)
       go (e_nil e d) = absurd (Memᴰ.not-nil (subst (λ (z : List FugueSpan). Mem w z) e m))
       go (e_last G u e d) = go2 (Memᴰ.append_cases G (subst (λ (z : List FugueSpan). Mem w z) e m))
         where
@@ -67,10 +67,10 @@ module _ (key : OptId → Key) (F R : List FugueSpan) (g : Good key (F ++ R)) (x
 
       root : Tri (Lt [] (key (ref w))) ([] ≡ key (ref w)) (Lt (key (ref w)) []) → Lt [] (key (ref w))
       root (tlt k) = k
-      root (teq e) = absurd (none≢at (ap (last_of Nothing) e ∙ last_of_lem key (g.wf w mw)))
+      root (teq e) = absurd (none≢at (ap (last_of None) e ∙ last_of_lem key (g.wf w mw)))
       root (tgt k) = absurd (g.rooted w mw k)
 
-      go : Ends Nothing F x → Lt (key x) (key (ref w))
+      go : Ends None F x → Lt (key x) (key (ref w))
       go (e_nil e d) = subst (λ (k : Key). Lt k (key (ref w))) (sym (ap key d ∙ g.none_key)) (root (tri [] (key (ref w))))
       go (e_last G u e d) = subst (λ (z : OptId). Lt (key z) (key (ref w))) (sym d)
           (sorted_back key G u R (subst (λ (z : List FugueSpan). Sorted key z) (ap (λ (z : List FugueSpan). z ++ R) e ∙ append_assoc G (u ∷ []) R) g.sorted) w m)
@@ -80,17 +80,17 @@ module _ (key : OptId → Key) (F R : List FugueSpan) (g : Good key (F ++ R)) (x
     L = F ++ R
 
     km : Key
-    km = key (At me)
+    km = key (Some me)
 
     pr : OptId
     pr = parent_right (F ++ R) x o
 
-    front_lo : (w : FugueSpan) → Mem w F → Lt (key (ref w)) (key (At me))
+    front_lo : (w : FugueSpan) → Mem w F → Lt (key (ref w)) (key (Some me))
     front_lo w m = go (front_x w m)
       where
-        go : (ref w ≡ x) ⊎ Lt (key (ref w)) (key x) → Lt (key (ref w)) (key (At me))
-        go (inl e) = subst (λ (z : OptId). Lt (key z) (key (At me))) (sym e) (after_ol key hung)
-        go (inr h) = Lt-trans (key (ref w)) (key x) (key (At me)) h (after_ol key hung)
+        go : (ref w ≡ x) ⊎ Lt (key (ref w)) (key x) → Lt (key (ref w)) (key (Some me))
+        go (inl e) = subst (λ (z : OptId). Lt (key z) (key (Some me))) (sym e) (after_ol key hung)
+        go (inr h) = Lt-trans (key (ref w)) (key x) (key (Some me)) h (after_ol key hung)
 
     -- The units up to origin right, and the rest, which is after us.
     record Range : Type 0 where
@@ -98,21 +98,21 @@ module _ (key : OptId → Key) (F R : List FugueSpan) (g : Good key (F ++ R)) (x
       P : List FugueSpan
       eq : R ≡ M ++ P
       up : up_to o R ≡ M
-      hi_p : (w : FugueSpan) → Mem w P → Lt (key (At me)) (key (ref w))
+      hi_p : (w : FugueSpan) → Mem w P → Lt (key (Some me)) (key (ref w))
       or_in : In o (F ++ R)
-      inside : (a : Id) → parent_right (F ++ R) x o ≡ At a → (w : FugueSpan) → Mem w M → Lt (key (ref w)) (key (At a))
+      inside : (a : Id) → parent_right (F ++ R) x o ≡ Some a → (w : FugueSpan) → Mem w M → Lt (key (ref w)) (key (Some a))
 
-    pr_of_none : o ≡ Nothing → parent_right (F ++ R) x o ≡ Nothing
+    pr_of_none : o ≡ None → parent_right (F ++ R) x o ≡ None
     unfolding parent_right
     pr_of_none e = go (has_ol (F ++ R) o x)
       where
-        go : (b : Bool) → cond b o Nothing ≡ Nothing
+        go : (b : Bool) → cond b o None ≡ None
         go true = e
         go false = refl
 
     -- the first unit that is not future is after us
     or_after : (M : List FugueSpan) (u : FugueSpan) (P : List FugueSpan) → R ≡ M ++ u ∷ P → ((w : FugueSpan) → Mem w M → w.status.future ≡ true) → u.status.future ≡ false → o ≡ ref u
-        → Lt (key (At me)) (key (ref u))
+        → Lt (key (Some me)) (key (ref u))
     unfolding parent_right
     or_after M u P e fut uf d = top (has_ol_test key (F ++ R) o x g.sorted)
       where
@@ -134,23 +134,23 @@ module _ (key : OptId → Key) (F R : List FugueSpan) (g : Good key (F ++ R)) (x
         where_is w f h k (inl m) = front_not w m h
         where_is w f h k (inr m) = place w f h k (mid M (subst (λ (z : List FugueSpan). Mem w z) e m))
 
-        at_ol : Lt (key x) (key (ol u)) → (ol u ≡ Nothing) ⊎ ((w : FugueSpan) × Mem w (F ++ R) × (ref w ≡ ol u) × (w.status.future ≡ false)) → ⊥
+        at_ol : Lt (key x) (key (ol u)) → (ol u ≡ None) ⊎ ((w : FugueSpan) × Mem w (F ++ R) × (ref w ≡ ol u) × (w.status.future ≡ false)) → ⊥
         at_ol k (inl n) = In-rooted key (F ++ R) g x x_in (subst (λ (z : Key). Lt (key x) z) (ap key n ∙ g.none_key) k)
         at_ol k (inr t) = where_is t.0 t.3 (subst (λ (z : OptId). Lt (key x) (key z)) (sym t.2) k)
             (subst (λ (z : OptId). Lt (key z) (key (ref u))) (sym t.2) (after_ol key (g.wf u mu))) (Memᴰ.append_cases F t.1)
 
         cross : ¬ (ol u ≡ x) → (key x ≡ key (ol u)) ⊎ Lt (key x) (key (ol u)) → ⊥
-        cross n (inl k) = n (sym (In-id key (F ++ R) g (ol u) (g.ol_in u mu)) ∙ (ap (last_of Nothing) (sym k) ∙ In-id key (F ++ R) g x x_in))
+        cross n (inl k) = n (sym (In-id key (F ++ R) g (ol u) (g.ol_in u mu)) ∙ (ap (last_of None) (sym k) ∙ In-id key (F ++ R) g x x_in))
         cross n (inr k) = at_ol k (past-closed u mu uf)
 
-        third : ¬ (ol u ≡ x) → Tri (Lt (key (At me)) (key (ref u))) (key (At me) ≡ key (ref u)) (Lt (key (ref u)) (key (At me))) → Lt (key (At me)) (key (ref u))
+        third : ¬ (ol u ≡ x) → Tri (Lt (key (Some me)) (key (ref u))) (key (Some me) ≡ key (ref u)) (Lt (key (ref u)) (key (Some me))) → Lt (key (Some me)) (key (ref u))
         third n (tlt k) = k
-        third n (teq k) = absurd (fresh u mu (sym (last_of_lem key (g.wf u mu)) ∙ (ap (last_of Nothing) (sym k) ∙ last_of_lem key hung)))
+        third n (teq k) = absurd (fresh u mu (sym (last_of_lem key (g.wf u mu)) ∙ (ap (last_of None) (sym k) ∙ last_of_lem key hung)))
         third n (tgt k) = absurd (cross n (F2 key hung (g.wf u mu) (rest_x u m_r) k))
 
-        top : Test (has_ol (F ++ R) o x) ((w : FugueSpan) × Mem w (F ++ R) × (ref w ≡ o) × (ol w ≡ x)) → Lt (key (At me)) (key (ref u))
-        top (pass b t) = before_pr key (subst (λ (z : OptId). Hung key x me z) (ap (λ (z : Bool). cond z o Nothing) b ∙ d) hung)
-        top (fail b n) = third (λ (k : ol u ≡ x). n (u, mu, sym d, k)) (tri (key (At me)) (key (ref u)))
+        top : Test (has_ol (F ++ R) o x) ((w : FugueSpan) × Mem w (F ++ R) × (ref w ≡ o) × (ol w ≡ x)) → Lt (key (Some me)) (key (ref u))
+        top (pass b t) = before_pr key (subst (λ (z : OptId). Hung key x me z) (ap (λ (z : Bool). cond z o None) b ∙ d) hung)
+        top (fail b n) = third (λ (k : ol u ≡ x). n (u, mu, sym d, k)) (tri (key (Some me)) (key (ref u)))
 
     range : Past R o → Range
     unfolding parent_right
@@ -161,7 +161,7 @@ module _ (key : OptId → Key) (F R : List FugueSpan) (g : Good key (F ++ R)) (x
       up = ap (λ (z : OptId). up_to z R) e ∙ up_to_none R;
       hi_p = λ (w : FugueSpan) (m : Mem w []). absurd (Memᴰ.not-nil m);
       or_in = inl e;
-      inside = λ (a : Id) (d : parent_right (F ++ R) x o ≡ At a). absurd (none≢at (sym (pr_of_none e) ∙ d));
+      inside = λ (a : Id) (d : parent_right (F ++ R) x o ≡ Some a). absurd (none≢at (sym (pr_of_none e) ∙ d));
     }
     range (p_some M u P e fut uf d) = record {
       M = M;
@@ -170,7 +170,7 @@ module _ (key : OptId → Key) (F R : List FugueSpan) (g : Good key (F ++ R)) (x
       up = ap₂ up_to d e ∙ up_to_some M u P (λ (w : FugueSpan) (m : Mem w M) (k : ref u ≡ ref w). Lt-irrefl (key (ref u)) (subst (λ (z : OptId). Lt (key z) (key (ref u))) (sym k) (before w m)));
       hi_p = λ (w : FugueSpan) (m : Mem w (u ∷ P)). behind_u w (Memᴰ.cases_cons m);
       or_in = inr (u, mu, sym d);
-      inside = λ (a : Id) (k : parent_right (F ++ R) x o ≡ At a) (w : FugueSpan) (m : Mem w M). subst (λ (z : OptId). Lt (key (ref w)) (key z)) (sym d ∙ is_o a (has_ol (F ++ R) o x) k) (before w m);
+      inside = λ (a : Id) (k : parent_right (F ++ R) x o ≡ Some a) (w : FugueSpan) (m : Mem w M). subst (λ (z : OptId). Lt (key (ref w)) (key z)) (sym d ∙ is_o a (has_ol (F ++ R) o x) k) (before w m);
     }
       where
         mu : Mem u (F ++ R)
@@ -182,14 +182,14 @@ module _ (key : OptId → Key) (F R : List FugueSpan) (g : Good key (F ++ R)) (x
         before : (w : FugueSpan) → Mem w M → Lt (key (ref w)) (key (ref u))
         before w m = sorted_front key M u P srt w m
 
-        first : Lt (key (At me)) (key (ref u))
+        first : Lt (key (Some me)) (key (ref u))
         first = or_after M u P e fut uf d
 
-        behind_u : (w : FugueSpan) → (w ≡ u) ⊎ Mem w P → Lt (key (At me)) (key (ref w))
-        behind_u w (inl k) = subst (λ (z : FugueSpan). Lt (key (At me)) (key (ref z))) (sym k) first
-        behind_u w (inr k) = Lt-trans (key (At me)) (key (ref u)) (key (ref w)) first (sorted_back key M u P srt w k)
+        behind_u : (w : FugueSpan) → (w ≡ u) ⊎ Mem w P → Lt (key (Some me)) (key (ref w))
+        behind_u w (inl k) = subst (λ (z : FugueSpan). Lt (key (Some me)) (key (ref z))) (sym k) first
+        behind_u w (inr k) = Lt-trans (key (Some me)) (key (ref u)) (key (ref w)) first (sorted_back key M u P srt w k)
 
-        is_o : (a : Id) (t : Bool) → cond t o Nothing ≡ At a → o ≡ At a
+        is_o : (a : Id) (t : Bool) → cond t o None ≡ Some a → o ≡ Some a
         is_o a true k = k
         is_o a false k = absurd (none≢at k)
 
@@ -199,8 +199,8 @@ module _ (key : OptId → Key) (F R : List FugueSpan) (g : Good key (F ++ R)) (x
       pub behind : List FugueSpan
       pub cut : R ≡ before ++ behind
       pub at_cut : scan_place (F ++ R) R x o me.peer ≡ length before
-      pub lo : (w : FugueSpan) → Mem w (F ++ before) → Lt (key (ref w)) (key (At me))
-      pub hi : (w : FugueSpan) → Mem w behind → Lt (key (At me)) (key (ref w))
+      pub lo : (w : FugueSpan) → Mem w (F ++ before) → Lt (key (ref w)) (key (Some me))
+      pub hi : (w : FugueSpan) → Mem w behind → Lt (key (Some me)) (key (ref w))
       pub or_in : In o (F ++ R)
 
     pub placed : Past R o → Placed
@@ -234,9 +234,9 @@ module _ (key : OptId → Key) (F R : List FugueSpan) (g : Good key (F ++ R)) (x
         srt_m : Sorted key M
         srt_m = sorted_head key M P (subst (λ (z : List FugueSpan). Sorted key z) rng.eq (sorted_tail key F R g.sorted))
 
-        sp : Split key (key (At me)) M
-        sp = split key (key (At me)) M srt_m (λ (w : FugueSpan) (m : Mem w M) (e : key (ref w) ≡ key (At me)).
-            fresh w (Memᴰ.append_right F (in_m w m)) (sym (last_of_lem key (g.wf w (Memᴰ.append_right F (in_m w m)))) ∙ (ap (last_of Nothing) e ∙ last_of_lem key hung)))
+        sp : Split key (key (Some me)) M
+        sp = split key (key (Some me)) M srt_m (λ (w : FugueSpan) (m : Mem w M) (e : key (ref w) ≡ key (Some me)).
+            fresh w (Memᴰ.append_right F (in_m w m)) (sym (last_of_lem key (g.wf w (Memᴰ.append_right F (in_m w m)))) ∙ (ap (last_of None) e ∙ last_of_lem key hung)))
 
         S1 : List FugueSpan
         S1 = sp.S1
@@ -250,27 +250,27 @@ module _ (key : OptId → Key) (F R : List FugueSpan) (g : Good key (F ++ R)) (x
         in2 : (w : FugueSpan) → Mem w S2 → Mem w M
         in2 w m = subst (λ (z : List FugueSpan). Mem w z) (sym sp.eq) (Memᴰ.append_right S1 m)
 
-        low : (w : FugueSpan) → Mem w F ⊎ Mem w S1 → Lt (key (ref w)) (key (At me))
+        low : (w : FugueSpan) → Mem w F ⊎ Mem w S1 → Lt (key (ref w)) (key (Some me))
         low w (inl m) = front_lo w m
         low w (inr m) = sp.lo w m
 
-        high : (w : FugueSpan) → Mem w S2 ⊎ Mem w P → Lt (key (At me)) (key (ref w))
+        high : (w : FugueSpan) → Mem w S2 ⊎ Mem w P → Lt (key (Some me)) (key (ref w))
         high w (inl m) = sp.hi w m
         high w (inr m) = rng.hi_p w m
 
-        full4 : (w : FugueSpan) → Lt (key (ref w)) (key (At me)) → Mem w S1 ⊎ Mem w S2 → Mem w S1
+        full4 : (w : FugueSpan) → Lt (key (ref w)) (key (Some me)) → Mem w S1 ⊎ Mem w S2 → Mem w S1
         full4 w k (inl m) = m
-        full4 w k (inr m) = absurd (Lt-asym (key (ref w)) (key (At me)) k (sp.hi w m))
+        full4 w k (inr m) = absurd (Lt-asym (key (ref w)) (key (Some me)) k (sp.hi w m))
 
-        full3 : (w : FugueSpan) → Lt (key (ref w)) (key (At me)) → Mem w M ⊎ Mem w P → Mem w S1
+        full3 : (w : FugueSpan) → Lt (key (ref w)) (key (Some me)) → Mem w M ⊎ Mem w P → Mem w S1
         full3 w k (inl m) = full4 w k (Memᴰ.append_cases S1 (subst (λ (z : List FugueSpan). Mem w z) sp.eq m))
-        full3 w k (inr m) = absurd (Lt-asym (key (ref w)) (key (At me)) k (rng.hi_p w m))
+        full3 w k (inr m) = absurd (Lt-asym (key (ref w)) (key (Some me)) k (rng.hi_p w m))
 
-        full2 : (w : FugueSpan) → Lt (key x) (key (ref w)) → Lt (key (ref w)) (key (At me)) → Mem w F ⊎ Mem w R → Mem w S1
+        full2 : (w : FugueSpan) → Lt (key x) (key (ref w)) → Lt (key (ref w)) (key (Some me)) → Mem w F ⊎ Mem w R → Mem w S1
         full2 w h k (inl m) = absurd (front_not w m h)
         full2 w h k (inr m) = full3 w k (Memᴰ.append_cases M (subst (λ (z : List FugueSpan). Mem w z) rng.eq m))
 
-        pr_in2 : (a : Id) (r : OptId) → r ≡ At a → In r (F ++ R) → (w : FugueSpan) × Mem w (F ++ R) × (ref w ≡ At a)
+        pr_in2 : (a : Id) (r : OptId) → r ≡ Some a → In r (F ++ R) → (w : FugueSpan) × Mem w (F ++ R) × (ref w ≡ Some a)
         pr_in2 a r e (inl d) = absurd (none≢at (sym d ∙ e))
         pr_in2 a r e (inr t) = (t.0, t.1, t.2 ∙ e)
 
@@ -282,7 +282,7 @@ module _ (key : OptId → Key) (F R : List FugueSpan) (g : Good key (F ++ R)) (x
           hung = hung;
           wf = g.wf;
           ol_in = g.ol_in;
-          pr_in = λ (v : FugueSpan) (a : Id) (m : Mem v (F ++ R)) (e : pr_of (F ++ R) v ≡ At a). pr_in2 a (pr_of (F ++ R) v) e (pr_in1 v);
+          pr_in = λ (v : FugueSpan) (a : Id) (m : Mem v (F ++ R)) (e : pr_of (F ++ R) v ≡ Some a). pr_in2 a (pr_of (F ++ R) v) e (pr_in1 v);
           none_key = g.none_key;
           rooted = In-rooted key (F ++ R) g x x_in;
           x_id = In-id key (F ++ R) g x x_in;
@@ -291,8 +291,8 @@ module _ (key : OptId → Key) (F R : List FugueSpan) (g : Good key (F ++ R)) (x
           lo = sp.lo;
           hi = sp.hi;
           xlo = λ (v : FugueSpan) (m : Mem v S1). rest_x v (in_m v (in1 v m));
-          full = λ (w : FugueSpan) (m : Mem w (F ++ R)) (h : Lt (key x) (key (ref w))) (k : Lt (key (ref w)) (key (At me))). full2 w h k (Memᴰ.append_cases F m);
+          full = λ (w : FugueSpan) (m : Mem w (F ++ R)) (h : Lt (key x) (key (ref w))) (k : Lt (key (ref w)) (key (Some me))). full2 w h k (Memᴰ.append_cases F m);
           sorted = sorted_head key S1 S2 (subst (λ (z : List FugueSpan). Sorted key z) sp.eq srt_m);
           newest = newest;
-          inside = λ (a : Id) (e : parent_right (F ++ R) x o ≡ At a) (w : FugueSpan) (m : Mem w S2). rng.inside a e w (in2 w m);
+          inside = λ (a : Id) (e : parent_right (F ++ R) x o ≡ Some a) (w : FugueSpan) (m : Mem w S2). rng.inside a e w (in2 w m);
         }

@@ -9,9 +9,9 @@ use mathlib.Core.List.{List, [], ◌∷◌, ◌++◌, append_assoc, append-nil, 
 use lib.ListN.{length}
 use native.Mathlib.Omega.{arith}
 use native.Mathlib.Nat.{add-zero}
+use Rattle.std.specs.Prelude.{None, Some}
 use Rattle.span.specs.declared.ids.Id.{Id}
 use Rattle.span.specs.Maybe.{OptId}
-use Rattle.std.specs.Prelude.{None as Nothing, Some as At}
 use Rattle.span.specs.declared.span.FugueSpan.{FugueSpan}
 use Rattle.units.specs.declared.place.Verdict.{Verdict}
 use Rattle.units.specs.declared.place.Verdict.TheVariants.{Stop, Hold, Clear, Keep}
@@ -55,32 +55,32 @@ module _ (key : OptId → Key) (prf : FugueSpan → OptId) (me : Id) (x pr : Opt
   pub record Scene (all S1 S2 : List FugueSpan) : Type 0 where
     pub hung : Hung key x me pr
     pub wf : (v : FugueSpan) → Mem v all → Hung key (ol v) v.id (prf v)
-    pub ol_in : (v : FugueSpan) → Mem v all → (ol v ≡ Nothing) ⊎ ((w : FugueSpan) × Mem w all × (ref w ≡ ol v))
-    pub pr_in : (v : FugueSpan) (a : Id) → Mem v all → prf v ≡ At a → (w : FugueSpan) × Mem w all × (ref w ≡ At a)
-    pub none_key : key Nothing ≡ []
+    pub ol_in : (v : FugueSpan) → Mem v all → (ol v ≡ None) ⊎ ((w : FugueSpan) × Mem w all × (ref w ≡ ol v))
+    pub pr_in : (v : FugueSpan) (a : Id) → Mem v all → prf v ≡ Some a → (w : FugueSpan) × Mem w all × (ref w ≡ Some a)
+    pub none_key : key None ≡ []
     pub rooted : Lt (key x) [] → ⊥
-    pub x_id : last_of Nothing (key x) ≡ x
+    pub x_id : last_of None (key x) ≡ x
     pub low_in : (v : FugueSpan) → Mem v S1 → Mem v all
     pub high_in : (v : FugueSpan) → Mem v S2 → Mem v all
-    pub lo : (v : FugueSpan) → Mem v S1 → Lt (key (ref v)) (key (At me))
-    pub hi : (v : FugueSpan) → Mem v S2 → Lt (key (At me)) (key (ref v))
+    pub lo : (v : FugueSpan) → Mem v S1 → Lt (key (ref v)) (key (Some me))
+    pub hi : (v : FugueSpan) → Mem v S2 → Lt (key (Some me)) (key (ref v))
     pub xlo : (v : FugueSpan) → Mem v S1 → Lt (key x) (key (ref v))
-    pub full : (w : FugueSpan) → Mem w all → Lt (key x) (key (ref w)) → Lt (key (ref w)) (key (At me)) → Mem w S1
+    pub full : (w : FugueSpan) → Mem w all → Lt (key x) (key (ref w)) → Lt (key (ref w)) (key (Some me)) → Mem w S1
     pub sorted : Sorted key S1
     pub newest : (w : FugueSpan) → Mem w all → Older w.id me
-    pub inside : (a : Id) → pr ≡ At a → (w : FugueSpan) → Mem w S2 → Lt (key (ref w)) (key (At a))
+    pub inside : (a : Id) → pr ≡ Some a → (w : FugueSpan) → Mem w S2 → Lt (key (ref w)) (key (Some a))
 
   -- while holding: some unit before us with a parent right r that is before our parent right, and r has not been scanned
   record Held (all Q : List FugueSpan) : Type 0 where
     y : Id
     a : Id
-    hy : Hung key x y (At a)
-    low : Lt (key (At y)) (key (At me))
-    early : PLt key (At a) pr
+    hy : Hung key x y (Some a)
+    low : Lt (key (Some y)) (key (Some me))
+    early : PLt key (Some a) pr
     r : FugueSpan
     rin : Mem r all
-    rref : ref r ≡ At a
-    notyet : (w : FugueSpan) → Mem w Q → ref w ≡ At a → ⊥
+    rref : ref r ≡ Some a
+    notyet : (w : FugueSpan) → Mem w Q → ref w ≡ Some a → ⊥
 
   abbrev Inv : List FugueSpan → Bool → ℕ → ℕ → List FugueSpan → Type 0
   Inv all false p i Q = p ≡ i
@@ -109,13 +109,13 @@ module _ (key : OptId → Key) (prf : FugueSpan → OptId) (me : Id) (x pr : Opt
     high_gt v m e l = go pr refl l
       where
         go : (r : OptId) → pr ≡ r → PLt key r (prf v) → ⊥
-        go Nothing d k = k
-        go (At a) d k = F1 key (subst (λ (z : OptId). Hung key x me z) d sc.hung) (at_x v (sc.high_in v m) e) (sc.hi v m) (sc.inside a d v m) k
+        go None d k = k
+        go (Some a) d k = F1 key (subst (λ (z : OptId). Hung key x me z) d sc.hung) (at_x v (sc.high_in v m) e) (sc.hi v m) (sc.inside a d v m) k
 
     -- after us its origin left is not before us in the scan
     high_keep : (v : FugueSpan) → Mem v S2 → (w : FugueSpan) → Mem w S1 → ref w ≡ ol v → ⊥
     high_keep v m w mw e =
-        go (F2 key (sc.wf v (sc.high_in v m)) sc.hung (subst (λ (z : OptId). Lt (key z) (key (At me))) e (sc.lo w mw)) (sc.hi v m))
+        go (F2 key (sc.wf v (sc.high_in v m)) sc.hung (subst (λ (z : OptId). Lt (key z) (key (Some me))) e (sc.lo w mw)) (sc.hi v m))
       where
         k : Lt (key x) (key (ol v))
         k = subst (λ (z : OptId). Lt (key x) (key z)) e (sc.xlo w mw)
@@ -151,15 +151,15 @@ module _ (key : OptId → Key) (prf : FugueSpan → OptId) (me : Id) (x pr : Opt
         (f Q v) (says Q v (sc.high_in v (sub v (Memᴰ.head refl))))
 
     -- an origin left is told by its key
-    ol_id : (v : FugueSpan) → Mem v all → last_of Nothing (key (ol v)) ≡ ol v
+    ol_id : (v : FugueSpan) → Mem v all → last_of None (key (ol v)) ≡ ol v
     ol_id v m = go (sc.ol_in v m)
       where
-        go : (ol v ≡ Nothing) ⊎ ((w : FugueSpan) × Mem w all × (ref w ≡ ol v)) → last_of Nothing (key (ol v)) ≡ ol v
-        go (inl e) = ap (λ (z : OptId). last_of Nothing (key z)) e ∙ (ap (last_of Nothing) sc.none_key ∙ sym e)
-        go (inr t) = subst (λ (z : OptId). last_of Nothing (key z) ≡ z) t.2 (last_of_lem key (sc.wf t.0 t.1))
+        go : (ol v ≡ None) ⊎ ((w : FugueSpan) × Mem w all × (ref w ≡ ol v)) → last_of None (key (ol v)) ≡ ol v
+        go (inl e) = ap (λ (z : OptId). last_of None (key z)) e ∙ (ap (last_of None) sc.none_key ∙ sym e)
+        go (inr t) = subst (λ (z : OptId). last_of None (key z) ≡ z) t.2 (last_of_lem key (sc.wf t.0 t.1))
 
     x_of_key : (v : FugueSpan) → Mem v all → key x ≡ key (ol v) → ol v ≡ x
-    x_of_key v m e = sym (ol_id v m) ∙ (ap (last_of Nothing) (sym e) ∙ sc.x_id)
+    x_of_key v m e = sym (ol_id v m) ∙ (ap (last_of None) (sym e) ∙ sc.x_id)
 
     -- before us: its origin left has been scanned
     low_stop : (Q S : List FugueSpan) (v : FugueSpan) → Q ++ v ∷ S ≡ S1 → Mem v S1 → ¬ (ol v ≡ x) → ((w : FugueSpan) → Mem w Q → ref w ≡ ol v → ⊥) → ⊥
@@ -179,13 +179,13 @@ module _ (key : OptId → Key) (prf : FugueSpan → OptId) (me : Id) (x pr : Opt
         inside2 w k r (inl d) = l w d r
         inside2 w k r (inr d) = inside3 w k r (Memᴰ.cases_cons d)
 
-        at_ol : Lt (key x) (key (ol v)) → (ol v ≡ Nothing) ⊎ ((w : FugueSpan) × Mem w all × (ref w ≡ ol v)) → ⊥
+        at_ol : Lt (key x) (key (ol v)) → (ol v ≡ None) ⊎ ((w : FugueSpan) × Mem w all × (ref w ≡ ol v)) → ⊥
         at_ol k (inl d) = sc.rooted (subst (λ (z : Key). Lt (key x) z) (ap key d ∙ sc.none_key) k)
         at_ol k (inr t) =
             let w : FugueSpan = t.0 in
             let k1 : Lt (key x) (key (ref w)) = subst (λ (z : OptId). Lt (key x) (key z)) (sym t.2) k in
             let k2 : Lt (key (ref w)) (key (ref v)) = subst (λ (z : OptId). Lt (key z) (key (ref v))) (sym t.2) (after_ol key (sc.wf v mv)) in
-            let k3 : Lt (key (ref w)) (key (At me)) = Lt-trans (key (ref w)) (key (ref v)) (key (At me)) k2 (sc.lo v m) in
+            let k3 : Lt (key (ref w)) (key (Some me)) = Lt-trans (key (ref w)) (key (ref v)) (key (Some me)) k2 (sc.lo v m) in
             inside2 w k2 t.2 (Memᴰ.append_cases Q (subst (λ (z : List FugueSpan). Mem w z) (sym e) (sc.full w t.1 k1 k3)))
 
         go : (key x ≡ key (ol v)) ⊎ Lt (key x) (key (ol v)) → ⊥
@@ -202,18 +202,18 @@ module _ (key : OptId → Key) (prf : FugueSpan → OptId) (me : Id) (x pr : Opt
         srt : Sorted key (Q ++ v ∷ S)
         srt = subst (λ (z : List FugueSpan). Sorted key z) (sym e) sc.sorted
 
-        apart : (a : Id) → Lt (key (ref v)) (key (At a)) → (w : FugueSpan) → ref w ≡ At a → Mem w Q ⊎ Mem w (v ∷ []) → ⊥
+        apart : (a : Id) → Lt (key (ref v)) (key (Some a)) → (w : FugueSpan) → ref w ≡ Some a → Mem w Q ⊎ Mem w (v ∷ []) → ⊥
         apart a k w g (inl mw) =
-            Lt-irrefl (key (At a)) (subst (λ (z : OptId). Lt (key z) (key (At a))) g
-            (Lt-trans (key (ref w)) (key (ref v)) (key (At a)) (sorted_front key Q v S srt w mw) k))
+            Lt-irrefl (key (Some a)) (subst (λ (z : OptId). Lt (key z) (key (Some a))) g
+            (Lt-trans (key (ref w)) (key (ref v)) (key (Some a)) (sorted_front key Q v S srt w mw) k))
         apart a k w g (inr mw) =
-            Lt-irrefl (key (At a)) (subst (λ (z : OptId). Lt (key z) (key (At a))) (ap ref (sym (Memᴰ.eq_of_singleton mw)) ∙ g) k)
+            Lt-irrefl (key (Some a)) (subst (λ (z : OptId). Lt (key z) (key (Some a))) (ap ref (sym (Memᴰ.eq_of_singleton mw)) ∙ g) k)
 
         go : (r : OptId) → prf v ≡ r → PLt key r pr → Held all (Q ++ v ∷ [])
-        go Nothing g k = absurd k
-        go (At a) g k =
-            let hy : Hung key x v.id (At a) = subst (λ (z : OptId). Hung key x v.id z) g (at_x v mv d) in
-            let t : (w : FugueSpan) × Mem w all × (ref w ≡ At a) = sc.pr_in v a mv g in
+        go None g k = absurd k
+        go (Some a) g k =
+            let hy : Hung key x v.id (Some a) = subst (λ (z : OptId). Hung key x v.id z) g (at_x v mv d) in
+            let t : (w : FugueSpan) × Mem w all × (ref w ≡ Some a) = sc.pr_in v a mv g in
             record {
               y = v.id;
               a = a;
@@ -223,7 +223,7 @@ module _ (key : OptId → Key) (prf : FugueSpan → OptId) (me : Id) (x pr : Opt
               r = t.0;
               rin = t.1;
               rref = t.2;
-              notyet = λ (w : FugueSpan) (mw : Mem w (Q ++ v ∷ [])) (g' : ref w ≡ At a). apart a (before_pr key hy) w g' (Memᴰ.append_cases Q mw);
+              notyet = λ (w : FugueSpan) (mw : Mem w (Q ++ v ∷ [])) (g' : ref w ≡ Some a). apart a (before_pr key hy) w g' (Memᴰ.append_cases Q mw);
             }
 
     -- holding goes on over v
@@ -238,35 +238,35 @@ module _ (key : OptId → Key) (prf : FugueSpan → OptId) (me : Id) (x pr : Opt
           r = h.r;
           rin = h.rin;
           rref = h.rref;
-          notyet = λ (w : FugueSpan) (mw : Mem w (Q ++ v ∷ [])) (g : ref w ≡ At h.a). apart w g (Memᴰ.append_cases Q mw);
+          notyet = λ (w : FugueSpan) (mw : Mem w (Q ++ v ∷ [])) (g : ref w ≡ Some h.a). apart w g (Memᴰ.append_cases Q mw);
         }
       where
-        same : (a : Id) → Hung key x h.y (At a) → v.id ≡ a → key x ≡ key (ol v)
+        same : (a : Id) → Hung key x h.y (Some a) → v.id ≡ a → key x ≡ key (ol v)
         same a hy e = same_ol key hy (subst (λ (z : Id). Hung key (ol v) z (prf v)) e (sc.wf v mv))
 
-        isv : ref v ≡ At h.a → ⊥
+        isv : ref v ≡ Some h.a → ⊥
         isv g = n (x_of_key v mv (same h.a h.hy (cc)))
 
-        apart : (w : FugueSpan) → ref w ≡ At h.a → Mem w Q ⊎ Mem w (v ∷ []) → ⊥
+        apart : (w : FugueSpan) → ref w ≡ Some h.a → Mem w Q ⊎ Mem w (v ∷ []) → ⊥
         apart w g (inl mw) = h.notyet w mw g
         apart w g (inr mw) = isv (ap ref (sym (Memᴰ.eq_of_singleton mw)) ∙ g)
 
     -- At our place holding is over
     hold_end : Held all S1 → ⊥
-    hold_end h = go (tri (key (At h.a)) (key (At me)))
+    hold_end h = go (tri (key (Some h.a)) (key (Some me)))
       where
-        rk : key (ref h.r) ≡ key (At h.a)
+        rk : key (ref h.r) ≡ key (Some h.a)
         rk = ap key h.rref
 
-        same : key (At h.a) ≡ key (At me) → ref h.r ≡ At me
-        same e = sym (last_of_lem key (sc.wf h.r h.rin)) ∙ (ap (last_of Nothing) (rk ∙ e) ∙ last_of_lem key sc.hung)
+        same : key (Some h.a) ≡ key (Some me) → ref h.r ≡ Some me
+        same e = sym (last_of_lem key (sc.wf h.r h.rin)) ∙ (ap (last_of None) (rk ∙ e) ∙ last_of_lem key sc.hung)
 
-        go : Tri (Lt (key (At h.a)) (key (At me))) (key (At h.a) ≡ key (At me)) (Lt (key (At me)) (key (At h.a))) → ⊥
+        go : Tri (Lt (key (Some h.a)) (key (Some me))) (key (Some h.a) ≡ key (Some me)) (Lt (key (Some me)) (key (Some h.a))) → ⊥
         go (tlt k) = h.notyet h.r (sc.full h.r h.rin
-            (subst (λ (z : Key). Lt (key x) z) (sym rk) (Lt-trans (key x) (key (At h.y)) (key (At h.a)) (after_ol key h.hy) (before_pr key h.hy)))
-            (subst (λ (z : Key). Lt z (key (At me))) (sym rk) k)) h.rref
+            (subst (λ (z : Key). Lt (key x) z) (sym rk) (Lt-trans (key x) (key (Some h.y)) (key (Some h.a)) (after_ol key h.hy) (before_pr key h.hy)))
+            (subst (λ (z : Key). Lt z (key (Some me))) (sym rk) k)) h.rref
         go (teq e) =
-            let g : ref h.r ≡ At me = same e in
+            let g : ref h.r ≡ Some me = same e in
             let d : h.r.id ≡ me = cc in
             older_no h.r.id me (sc.newest h.r h.rin) d
         go (tgt k) = F1 key h.hy sc.hung h.low k h.early

@@ -10,9 +10,9 @@ use lib.Dec.{eqb, ltb}
 use lib.IntN.{ℤ, pos, negsuc}
 use lib.Signed.{lt_z}
 use native.Mathlib.Omega.{arith}
+use Rattle.std.specs.Prelude.{Some}
 use Rattle.span.specs.declared.ids.Id.{Id}
 use Rattle.span.specs.Maybe.{OptId}
-use Rattle.std.specs.Prelude.{Some as At}
 use Rattle.span.specs.declared.span.FugueSpan.{FugueSpan}
 use Rattle.fugue.specs.Tree.{ref, walk, id_before, by_id, sort_id}
 use Rattle.fugue.proofs.Order.{Tri, tlt, teq, tgt, LtZ, LtId, LtId-irrefl, LtId-trans, tri_id}
@@ -102,7 +102,7 @@ by_id_sorted u (v ∷ l) s n = go (before_test u.id v.id) (by_id_sorted u l s.1 
 
     vu : (L u v → ⊥) → Tri (L u v) (u.id ≡ v.id) (L v u) → L v u
     vu k (tlt h) = absurd (k h)
-    vu k (teq h) = absurd (n v (Memᴰ.head refl) (ap At (sym h)))
+    vu k (teq h) = absurd (n v (Memᴰ.head refl) (ap Some (sym h)))
     vu k (tgt h) = h
 
     all : L v u → (w : FugueSpan) → (w ≡ u) ⊎ Mem w l → L v w

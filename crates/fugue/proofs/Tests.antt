@@ -8,8 +8,8 @@ use mathlib.Core.List.{List, [], ◌∷◌}
 use lib.Dec.{T, eqb, ltb, eqb→eq, eqb_refl, ltb→lt, lt→ltb}
 use lib.ListN.{length}
 use native.Mathlib.Omega.{arith}
+use Rattle.std.specs.Prelude.{None}
 use Rattle.span.specs.Maybe.{OptId}
-use Rattle.std.specs.Prelude.{None as Nothing}
 use Rattle.span.specs.declared.span.FugueSpan.{FugueSpan}
 use Rattle.span.specs.Ids.{same_opt}
 use Rattle.span.proofs.Same.{same_opt-true, same_opt_refl}
@@ -88,7 +88,7 @@ has_ol_test key (v ∷ l) r x srt = go (same_opt_test r (ref v)) (same_opt_test 
         split g (inr m) = n (g.0, m, g.2, g.3)
 
 -- positions in a sorted list
-pub pos_none : (l : List FugueSpan) → pos_of l Nothing ≡ length l
+pub pos_none : (l : List FugueSpan) → pos_of l None ≡ length l
 unfolding pos_of same_opt
 pos_none [] = refl
 pos_none (v ∷ l) = ap suc (pos_none l)

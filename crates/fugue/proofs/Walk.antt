@@ -7,9 +7,9 @@ use mathlib.Core.List.Memᴰ
 use mathlib.Core.List.{List, [], ◌∷◌, ◌++◌, append_assoc, append-nil}
 use lib.ListN.{length, length-append}
 use native.Mathlib.Omega.{arith}
+use Rattle.std.specs.Prelude.{None, Some}
 use Rattle.span.specs.declared.ids.Id.{Id}
 use Rattle.span.specs.Maybe.{OptId}
-use Rattle.std.specs.Prelude.{None as Nothing, Some as At}
 use Rattle.span.specs.declared.span.FugueSpan.{FugueSpan}
 use Rattle.span.specs.Ids.{same_opt}
 use Rattle.span.proofs.Same.{same_opt-true, same_opt_refl}
@@ -54,15 +54,15 @@ and-true false b e = absurd (true≢false (sym e))
 true-same_opt : (a b : OptId) → a ≡ b → same_opt a b ≡ true
 true-same_opt a b e = ap (λ (z : OptId). same_opt z b) e ∙ same_opt_refl b
 
-is_none-true : (r : OptId) → is_none r ≡ true → r ≡ Nothing
+is_none-true : (r : OptId) → is_none r ≡ true → r ≡ None
 unfolding is_none
-is_none-true Nothing e = refl
-is_none-true (At p) e = absurd (true≢false (sym e))
+is_none-true None e = refl
+is_none-true (Some p) e = absurd (true≢false (sym e))
 
-hung_l_key : (key : OptId → Key) {x : OptId} {p a : Id} → Hung key x p (At a) → key (At p) ≡ key (At a) ++ sl p ∷ []
+hung_l_key : (key : OptId → Key) {x : OptId} {p a : Id} → Hung key x p (Some a) → key (Some p) ≡ key (Some a) ++ sl p ∷ []
 hung_l_key key (hung_l s ms ir al er ek) = ek
 
-hung_r_key : (key : OptId → Key) {x : OptId} {p : Id} → Hung key x p Nothing → key (At p) ≡ key x ++ sr p ∷ []
+hung_r_key : (key : OptId → Key) {x : OptId} {p : Id} → Hung key x p None → key (Some p) ≡ key x ++ sr p ∷ []
 hung_r_key key (hung_r e) = e
 
 lt_step : (left : Bool) (u v : FugueSpan) → LtId u.id v.id → LtS (step_of left u) (step_of left v)
@@ -239,11 +239,11 @@ module _ (key : OptId → Key) (us : List FugueSpan) (wf : (u : FugueSpan) → M
   reach_more (go_l u m r) = go_l u m (reach_more r)
   reach_more (go_r u m r) = go_r u m (reach_more r)
 
-  module _ (none_key : key Nothing ≡ []) (ol_in : (u : FugueSpan) → Mem u us → In (ol u) us) (pr_in : (u : FugueSpan) → Mem u us → In (pr_of us u) us) where
+  module _ (none_key : key None ≡ []) (ol_in : (u : FugueSpan) → Mem u us → In (ol u) us) (pr_in : (u : FugueSpan) → Mem u us → In (pr_of us u) us) where
     roots : List FugueSpan
-    roots = keep_if (right_kid us Nothing) us
+    roots = keep_if (right_kid us None) us
 
-    right_kid_lem : (u : FugueSpan) (r : OptId) → Mem u us → pr_of us u ≡ Nothing → ol u ≡ r → Mem u (keep_if (right_kid us r) us)
+    right_kid_lem : (u : FugueSpan) (r : OptId) → Mem u us → pr_of us u ≡ None → ol u ≡ r → Mem u (keep_if (right_kid us r) us)
     unfolding right_kid is_none
     right_kid_lem u r m e d = keep_if_keeps (right_kid us r) us u m (ap₂ (λ (a : OptId) (b : Bool). is_none a && b) e (true-same_opt (ol u) r d))
 
@@ -252,26 +252,26 @@ module _ (key : OptId → Key) (us : List FugueSpan) (wf : (u : FugueSpan) → M
     left_kid_lem u v m e = keep_if_keeps (left_kid us (ref v)) us u m (ap₂ (λ (a : OptId) (b : Bool). not (is_none a) && b) e (true-same_opt (pr_of us u) (ref v) e))
 
     reach_step : (n : ℕ) (u : FugueSpan) → Mem u us → length (key (ref u)) ≡ suc n
-        → ((w : FugueSpan) → Mem w us → length (key (ref w)) ≡ n → Reach n (keep_if (right_kid us Nothing) us) w) → Reach (suc n) (keep_if (right_kid us Nothing) us) u
+        → ((w : FugueSpan) → Mem w us → length (key (ref w)) ≡ n → Reach n (keep_if (right_kid us None) us) w) → Reach (suc n) (keep_if (right_kid us None) us) u
     reach_step n u m e ih = go (pr_of us u) refl (pr_in u m) (wf u m)
       where
-        at_ol : pr_of us u ≡ Nothing → length (key (ol u)) ≡ n → In (ol u) us → Reach (suc n) (keep_if (right_kid us Nothing) us) u
-        at_ol d h (inl f) = here (right_kid_lem u Nothing m d f)
+        at_ol : pr_of us u ≡ None → length (key (ol u)) ≡ n → In (ol u) us → Reach (suc n) (keep_if (right_kid us None) us) u
+        at_ol d h (inl f) = here (right_kid_lem u None m d f)
         at_ol d h (inr t) = reach_right (ih t.0 t.1 (ap (λ (z : OptId). length (key z)) t.2 ∙ h)) u (right_kid_lem u (ref t.0) m d (sym t.2))
 
-        at_pr : (a : Id) → pr_of us u ≡ At a → length (key (At a)) ≡ n → In (pr_of us u) us → Reach (suc n) (keep_if (right_kid us Nothing) us) u
+        at_pr : (a : Id) → pr_of us u ≡ Some a → length (key (Some a)) ≡ n → In (pr_of us u) us → Reach (suc n) (keep_if (right_kid us None) us) u
         at_pr a d h (inl f) = absurd (none≢at (sym f ∙ d))
         at_pr a d h (inr t) = reach_left (ih t.0 t.1 (ap (λ (z : OptId). length (key z)) (t.2 ∙ d) ∙ h)) u (left_kid_lem u t.0 m (sym t.2))
 
-        go : (r : OptId) → pr_of us u ≡ r → In (pr_of us u) us → Hung key (ol u) u.id r → Reach (suc n) (keep_if (right_kid us Nothing) us) u
-        go Nothing d i (hung_r k) = at_ol d (let h : length (key (ol u) ++ sr u.id ∷ []) ≡ suc n = ap length (sym k) ∙ e in omega (arith, length-append (key (ol u)) (sr u.id ∷ []))) (ol_in u m)
-        go (At a) d i (hung_l s ms ir al er ek) = at_pr a d (let h : length (key (At a) ++ sl u.id ∷ []) ≡ suc n = ap length (sym ek) ∙ e in omega (arith, length-append (key (At a)) (sl u.id ∷ []))) i
+        go : (r : OptId) → pr_of us u ≡ r → In (pr_of us u) us → Hung key (ol u) u.id r → Reach (suc n) (keep_if (right_kid us None) us) u
+        go None d i (hung_r k) = at_ol d (let h : length (key (ol u) ++ sr u.id ∷ []) ≡ suc n = ap length (sym k) ∙ e in omega (arith, length-append (key (ol u)) (sr u.id ∷ []))) (ol_in u m)
+        go (Some a) d i (hung_l s ms ir al er ek) = at_pr a d (let h : length (key (Some a) ++ sl u.id ∷ []) ≡ suc n = ap length (sym ek) ∙ e in omega (arith, length-append (key (Some a)) (sl u.id ∷ []))) i
 
-    reach : (n : ℕ) (u : FugueSpan) → Mem u us → length (key (ref u)) ≡ n → Reach n (keep_if (right_kid us Nothing) us) u
+    reach : (n : ℕ) (u : FugueSpan) → Mem u us → length (key (ref u)) ≡ n → Reach n (keep_if (right_kid us None) us) u
     reach zero u m e = absurd (no (key (ref u)) refl e)
       where
         no : (k : Key) → key (ref u) ≡ k → length k ≡ 0 → ⊥
-        no [] d h = none≢at (ap (last_of Nothing) (sym d) ∙ last_of_lem key (wf u m))
+        no [] d h = none≢at (ap (last_of None) (sym d) ∙ last_of_lem key (wf u m))
         no (s ∷ k) d h = omega arith
     reach (suc n) u m e = reach_step n u m e (λ (w : FugueSpan) (k : Mem w us) (d : length (key (ref w)) ≡ n). reach n w k d)
 
@@ -282,15 +282,15 @@ module _ (key : OptId → Key) (us : List FugueSpan) (wf : (u : FugueSpan) → M
     module _ (deep : (u : FugueSpan) → Mem u us → length (key (ref u)) ≤ length us) where
       pub walk_sorted : Sorted key (walk us)
       unfolding walk
-      walk_sorted = (rises (length us) false (key Nothing) (keep_if (right_kid us Nothing) us) (kids_r Nothing)).0
+      walk_sorted = (rises (length us) false (key None) (keep_if (right_kid us None) us) (kids_r None)).0
 
       pub walk_in : (w : FugueSpan) → Mem w (walk us) → Mem w us
       unfolding walk
-      walk_in w m = ((rises (length us) false (key Nothing) (keep_if (right_kid us Nothing) us) (kids_r Nothing)).1 w m).in_u
+      walk_in w m = ((rises (length us) false (key None) (keep_if (right_kid us None) us) (kids_r None)).1 w m).in_u
 
       pub in_walk : (w : FugueSpan) → Mem w us → Mem w (walk us)
       unfolding walk
-      in_walk w m = reach_in (subst (λ (n : ℕ). Reach n (keep_if (right_kid us Nothing) us) w) (sub_back (length us) (length (key (ref w))) (deep w m))
+      in_walk w m = reach_in (subst (λ (n : ℕ). Reach n (keep_if (right_kid us None) us) w) (sub_back (length us) (length (key (ref w))) (deep w m))
           (reach_upto (length us - length (key (ref w))) (length (key (ref w))) (reach (length (key (ref w))) w m refl)))
 
 -- ---- a good list is the walk of its units
@@ -310,7 +310,7 @@ module _ (key : OptId → Key) (l us : List FugueSpan) (g : Good key l) (id_u : 
 
   same_pr : (v : FugueSpan) → pr_of l v ≡ pr_of us v
   unfolding pr_of parent_right
-  same_pr v = ap (λ (b : Bool). cond b (or v) Nothing) (same_has (or v) (ol v))
+  same_pr v = ap (λ (b : Bool). cond b (or v) None) (same_has (or v) (ol v))
 
   In-to : (r : OptId) → In r l → In r us
   In-to r (inl e) = inl e

@@ -11,8 +11,8 @@ use lib.IntN.{ℤ, pos, negsuc}
 use lib.Signed.{le_z}
 use lib.ListN.{length}
 use borrow.Author.Tests.{leb-true}
+use Rattle.std.specs.Prelude.{Some}
 use Rattle.span.specs.Maybe.{OptId}
-use Rattle.std.specs.Prelude.{Some as At}
 use Rattle.span.specs.Ids.{UNKNOWN_PEER, room_opt}
 use Rattle.span.specs.Status.{eq_z}
 use Rattle.span.proofs.StatusLaws.{eq_z-true}
@@ -112,19 +112,19 @@ module _ (n : ℕ) (done A : List Edit) (h : History) (key : OptId → Key) (r :
   parts = subst (λ (z : History). Five (valid spans targets (stored h)) (edit_code h.held e) (inside e.act e.at (units_at e.context z)) (ltb (length h.held) EDITS) (arrival_fits spans targets z e)) back
       (five_back (valid spans targets (stored h)) (edit_code h.held e) (inside e.act e.at (units_at e.context (on_units (stored h)))) (ltb (length h.held) EDITS) (arrival_fits spans targets (on_units (stored h)) e) ok)
 
-  conditions : Six (act_formed e.act) (room_opt (At e.id) (size e) && act_ids e.act) (has_peer h.held e.id.peer || not (leb PEERS (peer_count h.held)))
+  conditions : Six (act_formed e.act) (room_opt (Some e.id) (size e) && act_ids e.act) (has_peer h.held e.id.peer || not (leb PEERS (peer_count h.held)))
       (eq_z e.id.counter (pos (held_count h.held e.id.peer))) (named h.held e.context) (closed h.held e.context && own_count e)
   unfolding edit_code
-  conditions = six_back (act_formed e.act) (room_opt (At e.id) (size e) && act_ids e.act) (has_peer h.held e.id.peer || not (leb PEERS (peer_count h.held)))
+  conditions = six_back (act_formed e.act) (room_opt (Some e.id) (size e) && act_ids e.act) (has_peer h.held e.id.peer || not (leb PEERS (peer_count h.held)))
       (eq_z e.id.counter (pos (held_count h.held e.id.peer))) (named h.held e.context) (closed h.held e.context && own_count e) parts.edit
 
   sound_e : Known e × Natural e.id
-  sound_e = room_known e.id (size e) ((and-eq-true_iff (room_opt (At e.id) (size e)) (act_ids e.act)).0 conditions.two).0
+  sound_e = room_known e.id (size e) ((and-eq-true_iff (room_opt (Some e.id) (size e)) (act_ids e.act)).0 conditions.two).0
 
   pub formed_e : act_formed e.act ≡ true
   formed_e = conditions.one
 
-  pub ids_e : (room_opt (At e.id) (size e) && act_ids e.act) ≡ true
+  pub ids_e : (room_opt (Some e.id) (size e) && act_ids e.act) ≡ true
   ids_e = conditions.two
 
   holds_is : (p : ℕ) → ¬ (p ≡ UNKNOWN_PEER) → holds n e p ≡ count_of e.context p

@@ -9,10 +9,10 @@ use lib.ListN.{length, length-map}
 use lib.Dec.{eqb}
 use native.Mathlib.Omega.{arith}
 use borrow.Author.Tests.{ne_eqb}
+use Rattle.std.specs.Prelude.{None, Some}
 use Rattle.span.specs.declared.chunk.RichtextChunk.{RichtextChunk}
 use Rattle.span.specs.declared.ids.Id.{Id}
 use Rattle.span.specs.Maybe.{OptId}
-use Rattle.std.specs.Prelude.{None as Nothing, Some as At}
 use Rattle.span.specs.declared.span.FugueSpan.{FugueSpan}
 use Rattle.span.specs.Chunk.{len_of}
 use Rattle.span.specs.Ids.{UNKNOWN_PEER, inc_id, inc_opt}
@@ -71,12 +71,12 @@ module _ (n : ℕ) (done : List Edit) (h : History) (key : OptId → Key) (r : R
       p = made_peer sr.made
 
       go : Known sr.e ⊎ (sr.e.id.peer ≡ UNKNOWN_PEER)
-          → cond (eqb u.id.peer UNKNOWN_PEER) Nothing u.real_id ≡ cond (eqb sr.e.id.peer UNKNOWN_PEER) Nothing (inc_opt (cond (eqb sr.e.id.peer UNKNOWN_PEER) Nothing (At sr.e.id)) sr.made.k) → Real u
+          → cond (eqb u.id.peer UNKNOWN_PEER) None u.real_id ≡ cond (eqb sr.e.id.peer UNKNOWN_PEER) None (inc_opt (cond (eqb sr.e.id.peer UNKNOWN_PEER) None (Some sr.e.id)) sr.made.k) → Real u
       go (inr d) q = inl (p ∙ d)
       go (inl kn) q = inr (
         inc_id sr.e.id sr.made.k,
-        sym (ap (λ (b : Bool). cond b Nothing u.real_id) (ne_eqb u.id.peer UNKNOWN_PEER (λ (d : u.id.peer ≡ UNKNOWN_PEER). kn (sym p ∙ d))))
-            ∙ (q ∙ ap (λ (b : Bool). cond b Nothing (inc_opt (cond b Nothing (At sr.e.id)) sr.made.k)) (ne_eqb sr.e.id.peer UNKNOWN_PEER kn)),
+        sym (ap (λ (b : Bool). cond b None u.real_id) (ne_eqb u.id.peer UNKNOWN_PEER (λ (d : u.id.peer ≡ UNKNOWN_PEER). kn (sym p ∙ d))))
+            ∙ (q ∙ ap (λ (b : Bool). cond b None (inc_opt (cond b None (Some sr.e.id)) sr.made.k)) (ne_eqb sr.e.id.peer UNKNOWN_PEER kn)),
       )
 
 module _ (n : ℕ) (done : List Edit) (h : History) (key : OptId → Key) (r : Run n done h key) (e : Edit) (a : Arriving n done h e) where
@@ -235,7 +235,7 @@ module _ (n : ℕ) (done : List Edit) (h : History) (key : OptId → Key) (r : R
     ix : In x l1
     ix = go (origin_left_in l1 e.at at1)
       where
-        go : (x ≡ Nothing) ⊎ ((w : FugueSpan) × Mem w l1 × (ref w ≡ x) × (w.status.future ≡ false)) → In x l1
+        go : (x ≡ None) ⊎ ((w : FugueSpan) × Mem w l1 × (ref w ≡ x) × (w.status.future ≡ false)) → In x l1
         go (inl d) = inl d
         go (inr t) = inr (t.0, t.1, t.2)
 
@@ -281,7 +281,7 @@ module _ (n : ℕ) (done : List Edit) (h : History) (key : OptId → Key) (r : R
     key_len z (inr t) = go (plain_mem h.list (map (Co.unit_at e.context h.held) h.list) (sym plain1) t.0 t.1)
       where
         go : (u : FugueSpan) × Mem u h.list × (plain u ≡ plain t.0) → length (key z) ≤ length h.list
-        go q = subst (λ (y : OptId). length (key y) ≤ length h.list) (ap At (plain_same q.0 t.0 q.2).id ∙ t.2) (r.deep q.0 q.1)
+        go q = subst (λ (y : OptId). length (key y) ≤ length h.list) (ap Some (plain_same q.0 t.0 q.2).id ∙ t.2) (r.deep q.0 q.1)
 
     deep2 : (w : FugueSpan) → Mem w l2 → length (key2 (ref w)) ≤ length l2
     deep2 w k = go (splice_from sp w k)
@@ -295,7 +295,7 @@ module _ (n : ℕ) (done : List Edit) (h : History) (key : OptId → Key) (r : R
             let j : t.0 < suc m = t.1 in
             let k0 : Key = first_key key e.id x (parent_right l1 x o) in
             let b : length (key2 (ref w)) ≡ length (span_key e.id (first_key key e.id x (parent_right l1 x o)) t.0)
-            = ap length (ap (λ (z : Id). key2 (At z)) t.3 ∙ key_of_new key l1 good1 e.id m x o ix newest t.0 t.1) in
+            = ap length (ap (λ (z : Id). key2 (Some z)) t.3 ∙ key_of_new key l1 good1 e.id m x o ix newest t.0 t.1) in
             omega (
               arith,
               b,
@@ -362,7 +362,7 @@ module _ (n : ℕ) (done : List Edit) (h : History) (key : OptId → Key) (r : R
         (λ (lam : ℕ) (c : RichtextChunk) (d : e.act ≡ Insert lam c). absurd (clash lam c (sym act ∙ d)))
       where
         deep3 : (w : FugueSpan) → (u : FugueSpan) × Mem u h.list × (plain u ≡ plain w) → length (key (ref w)) ≤ length l3
-        deep3 w t = subst (λ (z : Id). length (key (At z)) ≤ length l3) (plain_same t.0 w t.2).id (omega (arith, r.deep t.0 t.1, alike_length h.list l3 (plain_alike h.list l3 plain3)))
+        deep3 w t = subst (λ (z : Id). length (key (Some z)) ≤ length l3) (plain_same t.0 w t.2).id (omega (arith, r.deep t.0 t.1, alike_length h.list l3 (plain_alike h.list l3 plain3)))
 
         old3 : (u : FugueSpan) → (w : FugueSpan) × Mem w l3 × (plain w ≡ plain u) → (w : FugueSpan) × Mem w l3 × (w.id ≡ u.id)
         old3 u t = (t.0, t.1, (plain_same t.0 u t.2).id)

@@ -9,10 +9,10 @@ use native.Mathlib.Omega.{arith}
 use lib.Dec.{eqb}
 use lib.ListN.{length}
 use borrow.Author.Tests.{eqb-true, eqb-false, leb-true, ne_eqb, not-true}
+use Rattle.std.specs.Prelude.{None, Some}
 use Rattle.span.specs.declared.chunk.RichtextChunk.{RichtextChunk}
 use Rattle.span.specs.declared.ids.Id.{Id}
 use Rattle.span.specs.Maybe.{OptId}
-use Rattle.std.specs.Prelude.{None as Nothing, Some as At}
 use Rattle.span.specs.declared.span.FugueSpan.{FugueSpan}
 use Rattle.span.specs.Chunk.{len_of}
 use Rattle.span.specs.Ids.{UNKNOWN_PEER, room_opt, inc_id, inc_opt, same_id, same_opt}
@@ -104,13 +104,13 @@ same_parts u v e =
     go true q h = inl (eqb-true u.id.peer UNKNOWN_PEER q)
     go false q h = inr (same_opt-true u.real_id v.real_id h)
 
-known_real : (i : Id) → ¬ (i.peer ≡ UNKNOWN_PEER) → real_new i ≡ At i
+known_real : (i : Id) → ¬ (i.peer ≡ UNKNOWN_PEER) → real_new i ≡ Some i
 unfolding real_new
-known_real i k = ap (λ (b : Bool). cond b Nothing (At i)) (ne_eqb i.peer UNKNOWN_PEER k)
+known_real i k = ap (λ (b : Bool). cond b None (Some i)) (ne_eqb i.peer UNKNOWN_PEER k)
 
-at_inj : (i j : Id) → At i ≡ At j → i ≡ j
+at_inj : (i j : Id) → Some i ≡ Some j → i ≡ j
 unfolding same_opt
-at_inj i j e = same_id-true i j (ap (λ (o : OptId). same_opt (At i) o) (sym e) ∙ same_id_refl i)
+at_inj i j e = same_id-true i j (ap (λ (o : OptId). same_opt (Some i) o) (sym e) ∙ same_id_refl i)
 
 module _ (h : History) (us : List FugueSpan) (same : same_units us (made_units h) ≡ true) where
   -- a unit is a placeholder's, or one that a held insert made
@@ -163,12 +163,12 @@ module _ (h : History) (us : List FugueSpan) (same : same_units us (made_units h
     -- the ids of an edit that is not refused are new
     pub fresh_new : (e : Edit) → edit_code h.held e ≡ 0 → (y : FugueSpan) → y.id ≡ e.id → Fresh y us
     unfolding Fresh
-    fresh_new e ok y q k small = go (mem_id_test (At (inc_id y.id k)) us)
+    fresh_new e ok y q k small = go (mem_id_test (Some (inc_id y.id k)) us)
       where
         o : EditOk h.held e
         o = edit_ok h.held e ok
 
-        go : Test (mem_id (At (inc_id y.id k)) us) ((w : FugueSpan) × Mem w us × (ref w ≡ At (inc_id y.id k))) → mem_id (At (inc_id y.id k)) us ≡ false
+        go : Test (mem_id (Some (inc_id y.id k)) us) ((w : FugueSpan) × Mem w us × (ref w ≡ Some (inc_id y.id k))) → mem_id (Some (inc_id y.id k)) us ≡ false
         go (fail b d) = b
         go (pass b t) =
             let i : t.0.id ≡ inc_id e.id k = at_inj t.0.id (inc_id y.id k) t.2 ∙ ap (λ (z : Id). inc_id z k) q in
@@ -226,8 +226,8 @@ module _ (spans targets : ℕ) (h : History) (ok : valid spans targets h ≡ tru
 
     pub new_ok : span_code (new_span e.id lam c) ≡ 0
     unfolding with_origins new_span size_of
-    new_ok = span_new e.id lam c Nothing Nothing edit.known (subst (λ (a : Act). act_formed a ≡ true) act edit.formed)
-        (subst (λ (a : Act). room_opt (At e.id) (size_of a) ≡ true) act edit.room) (leb-true (lam + len_of c) 4294967295 (subst (λ (a : Act). act_ids a ≡ true) act edit.ids))
+    new_ok = span_new e.id lam c None None edit.known (subst (λ (a : Act). act_formed a ≡ true) act edit.formed)
+        (subst (λ (a : Act). room_opt (Some e.id) (size_of a) ≡ true) act edit.room) (leb-true (lam + len_of c) 4294967295 (subst (λ (a : Act). act_ids a ≡ true) act edit.ids))
 
     -- in the list, and at any version
     pub new_fresh : Fresh (new_span e.id lam c) (expand h.list)
@@ -236,7 +236,7 @@ module _ (spans targets : ℕ) (h : History) (ok : valid spans targets h ≡ tru
 
     pub new_fresh_at : (v : Version) → Fresh (new_span e.id lam c) (units_at v (on_units h))
     unfolding Fresh on_units
-    new_fresh_at v k small = sym (likes_mem (At (inc_id (new_span e.id lam c).id k)) (expand h.list) (units_at v (on_units h)) (likes_at v (on_units h))) ∙ new_fresh k small
+    new_fresh_at v k small = sym (likes_mem (Some (inc_id (new_span e.id lam c).id k)) (expand h.list) (units_at v (on_units h)) (likes_at v (on_units h))) ∙ new_fresh k small
 
     -- the position, and the units, as 8 and 10 ask
     pub new_low : inside e.act e.at (units_at e.context (on_units h)) ≡ true → e.at ≤ shown (units_at e.context (on_units h))
@@ -261,7 +261,7 @@ module _ (spans targets : ℕ) (h : History) (ok : valid spans targets h ≡ tru
     pub gone_some : 0 < n
     gone_some = let k : n ≡ 0 → ⊥ = eqb-false n 0 (not-true (eqb n 0) (subst (λ (a : Act). act_formed a ≡ true) act (edit_ok h.held e code).formed)) in omega (arith, k)
 
-    pub gone_ids : room_opt (At target) n ≡ true
+    pub gone_ids : room_opt (Some target) n ≡ true
     gone_ids = subst (λ (a : Act). act_ids a ≡ true) act (edit_ok h.held e code).ids
 
     pub gone_low : inside e.act e.at us ≡ true → e.at + n ≤ shown us

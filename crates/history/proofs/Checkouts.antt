@@ -6,10 +6,10 @@ use mathlib.Core.Bool.{Bool, true, false, cond}
 use mathlib.Core.List.{List, [], ◌∷◌, ◌++◌, map}
 use native.Mathlib.Omega.{arith}
 use lib.ListN.{length}
+use Rattle.std.specs.Prelude.{Some}
 use Rattle.span.specs.declared.chunk.RichtextChunk.{RichtextChunk}
 use Rattle.span.specs.declared.ids.Id.{Id}
 use Rattle.span.specs.Maybe.{OptId}
-use Rattle.std.specs.Prelude.{Some as At}
 use Rattle.span.specs.declared.span.FugueSpan.{FugueSpan}
 use Rattle.span.specs.Chunk.{len_of}
 use Rattle.span.specs.Ids.{inc_id, UNKNOWN_PEER}
@@ -77,7 +77,7 @@ module _ (n : ℕ) (done : List Edit) (h : History) (key : OptId → Key) (r : R
       same f = unfold checkout in same_before f
 
       deep : (w : FugueSpan) → (u : FugueSpan) × Mem u h.list × (plain u ≡ plain w) → length (key (ref w)) ≤ length (units_at v h)
-      deep w t = subst (λ (z : Id). length (key (At z)) ≤ length (units_at v h)) (plain_same t.0 w t.2).id (omega (arith, r.deep t.0 t.1, alike_length h.list (units_at v h) (plain_alike h.list (units_at v h) same_plain)))
+      deep w t = subst (λ (z : Id). length (key (Some z)) ≤ length (units_at v h)) (plain_same t.0 w t.2).id (omega (arith, r.deep t.0 t.1, alike_length h.list (units_at v h) (plain_alike h.list (units_at v h) same_plain)))
 
       src : (w : FugueSpan) → (u : FugueSpan) × Mem u h.list × (plain u ≡ plain w) → Src done (record { placeholder = h.placeholder; list = units_at v h; held = h.held }) w
       src w t =

@@ -10,7 +10,7 @@ use lib.Dec.{eqb, leb}
 use lib.IntN.{ℤ, pos, negsuc, ◌+ℤ◌}
 use lib.Signed.{le_z}
 use borrow.Author.Tests.{le-leb, lt-leb, ltb-true, leb-true}
-use Rattle.std.specs.Prelude.{Some as At}
+use Rattle.std.specs.Prelude.{Some}
 use Rattle.span.specs.Ids.{UNKNOWN_PEER, room_opt}
 use Rattle.span.specs.Status.{eq_z}
 use Rattle.span.proofs.StatusLaws.{eq_z_refl}
@@ -146,7 +146,7 @@ module _ (n : ℕ) (S : List Edit) (wf : WellFormedSet S) (held : List Held) (do
 
   pub edit_code_lem : peers (e ∷ arrived held) ≤ PEERS → count_of e.context e.id.peer ≤ first_of e → edit_code held e ≡ 0
   unfolding edit_code closed own_count
-  edit_code_lem few own = six (act_formed e.act) (room_opt (At e.id) (size e) && act_ids e.act) (has_peer held e.id.peer || not (leb PEERS (peer_count held)))
+  edit_code_lem few own = six (act_formed e.act) (room_opt (Some e.id) (size e) && act_ids e.act) (has_peer held e.id.peer || not (leb PEERS (peer_count held)))
       (eq_z e.id.counter (pos (held_count held e.id.peer))) (named held e.context) (every (λ (h : Held). closed_for e.context h.edit) held && eq_z (pos (count_of e.context e.id.peer)) e.id.counter)
       (wf.formed e me) (wf.ids e me) (offices held e few) five (named_of held e.context (wf.pairs e me) pair_held)
       (ap₂ ◌&&◌ (every_of (λ (h : Held). closed_for e.context h.edit) held (λ (x : Held) (m : MemH x held). wf.closed e x.edit me (of_s x m))) own_count_lem)

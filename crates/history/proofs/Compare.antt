@@ -8,9 +8,9 @@ use mathlib.Core.List.Memᴰ
 use mathlib.Core.List.{List, [], ◌∷◌, map}
 use native.Mathlib.Omega.{arith}
 use native.Mathlib.Decide.{dec_lt}
+use Rattle.std.specs.Prelude.{None, Some}
 use Rattle.span.specs.declared.ids.Id.{Id}
 use Rattle.span.specs.Maybe.{OptId}
-use Rattle.std.specs.Prelude.{None as Nothing, Some as At}
 use Rattle.span.specs.declared.span.FugueSpan.{FugueSpan}
 use Rattle.span.specs.Ids.{UNKNOWN_PEER, inc_id}
 use Rattle.span.specs.Units as Units
@@ -78,7 +78,7 @@ module _ (n : ℕ) (done1 done2 : List Edit) (h1 h2 : History) (key1 key2 : OptI
         w = ag.units t.0 t.1 b1
 
         wv : w.0 ≡ v
-        wv = uniq2 w.0 v w.1 m (ap At (sym (plain_same t.0 w.0 w.2).id ∙ i))
+        wv = uniq2 w.0 v w.1 m (ap Some (sym (plain_same t.0 w.0 w.2).id ∙ i))
 
     tooks_back : (x : Held) → MemH x h2.held → MemE x.edit d → MemH x h1.held
     tooks_back x m b =
@@ -138,7 +138,7 @@ module _ (n : ℕ) (done1 done2 : List Edit) (h1 h2 : History) (key1 key2 : OptI
         keys2 : (w : FugueSpan) → Mem w (sees v h2) → key1 (ref w) ≡ key2 (ref w)
         keys2 w m =
             let t : (u : FugueSpan) × Mem u h1.list × (view v h1.held u ≡ w) × (key1 (ref u) ≡ key2 (ref u)) × (not_future w ≡ true) = back w m in
-            subst (λ (z : Id). key1 (At z) ≡ key2 (At z)) ((view_same v h1.held t.0).id ∙ ap (λ (z : FugueSpan). z.id) t.2) t.3
+            subst (λ (z : Id). key1 (Some z) ≡ key2 (Some z)) ((view_same v h1.held t.0).id ∙ ap (λ (z : FugueSpan). z.id) t.2) t.3
 
     -- what an edit that fits d sees is of d
     seen_of_d : (e : Edit) → Fits (clock n) d e → (w : FugueSpan) → Mem w (before e h1) → (v : FugueSpan) → ref v ≡ ref w → num v < cnt (clock n) d v.id.peer
@@ -165,14 +165,14 @@ module _ (n : ℕ) (done1 done2 : List Edit) (h1 h2 : History) (key1 key2 : OptI
       or_of_d : (u : FugueSpan) → Made h1 e u → (v : FugueSpan) → ref v ≡ or u → num v < cnt (clock n) d v.id.peer
       or_of_d u m v q = go (origin_right_in (before e h1) e.at)
         where
-          go : (origin_right e.at (before e h1) ≡ Nothing) ⊎ ((w : FugueSpan) × Mem w (before e h1) × (ref w ≡ origin_right e.at (before e h1))) → num v < cnt (clock n) d v.id.peer
+          go : (origin_right e.at (before e h1) ≡ None) ⊎ ((w : FugueSpan) × Mem w (before e h1) × (ref w ≡ origin_right e.at (before e h1))) → num v < cnt (clock n) d v.id.peer
           go (inl x) = absurd (none≢at (sym (q ∙ (made_right m ∙ x))))
           go (inr t) = seen_of_d e fits t.0 t.1 v (q ∙ (made_right m ∙ sym t.2))
 
       ol_of_d : (u : FugueSpan) (m : Made h1 e u) → m.k ≡ 0 → (v : FugueSpan) → ref v ≡ ol u → num v < cnt (clock n) d v.id.peer
       ol_of_d u m z v q = go (origin_left_in (before e h1) e.at (inside-at e.act e.at (before e h1) (r1.fit e me)))
         where
-          go : (origin_left e.at (before e h1) ≡ Nothing) ⊎ ((w : FugueSpan) × Mem w (before e h1) × (ref w ≡ origin_left e.at (before e h1)) × (w.status.future ≡ false)) → num v < cnt (clock n) d v.id.peer
+          go : (origin_left e.at (before e h1) ≡ None) ⊎ ((w : FugueSpan) × Mem w (before e h1) × (ref w ≡ origin_left e.at (before e h1)) × (w.status.future ≡ false)) → num v < cnt (clock n) d v.id.peer
           go (inl x) = absurd (none≢at (sym (q ∙ (made_first m z ∙ x))))
           go (inr t) = seen_of_d e fits t.0 t.1 v (q ∙ (made_first m z ∙ sym t.2))
 
@@ -187,31 +187,31 @@ module _ (n : ℕ) (done1 done2 : List Edit) (h1 h2 : History) (key1 key2 : OptI
           go (pass a t) (fail b nt) =
               let w : Twin t.0 = ag.units t.0 t.1 (or_of_d u m t.0 t.2) in
               let q : Same t.0 w.0 = plain_same t.0 w.0 w.2 in
-              absurd (nt (w.0, w.1, ap At (sym q.id) ∙ (t.2 ∙ s.right), sym q.left ∙ (t.3 ∙ s.left)))
+              absurd (nt (w.0, w.1, ap Some (sym q.id) ∙ (t.2 ∙ s.right), sym q.left ∙ (t.3 ∙ s.left)))
           go (fail a nt) (pass b t) =
               let w : Back t.0 = units_back t.0 t.1 (or_of_d u m t.0 (t.2 ∙ sym s.right)) in
               let q : Same w.0 t.0 = plain_same w.0 t.0 w.2 in
-              absurd (nt (w.0, w.1, ap At q.id ∙ (t.2 ∙ sym s.right), q.left ∙ (t.3 ∙ sym s.left)))
+              absurd (nt (w.0, w.1, ap Some q.id ∙ (t.2 ∙ sym s.right), q.left ∙ (t.3 ∙ sym s.left)))
 
       pr_same : (u v : FugueSpan) → Same u v → Made h1 e u → pr_of h1.list u ≡ pr_of h2.list v
       unfolding pr_of parent_right
-      pr_same u v s m = ap₂ (λ (b : Bool) (z : OptId). cond b z Nothing) (has_same u v s m) s.right
+      pr_same u v s m = ap₂ (λ (b : Bool) (z : OptId). cond b z None) (has_same u v s m) s.right
 
-      pr_is : (u : FugueSpan) → (pr_of h1.list u ≡ Nothing) ⊎ (pr_of h1.list u ≡ or u)
+      pr_is : (u : FugueSpan) → (pr_of h1.list u ≡ None) ⊎ (pr_of h1.list u ≡ or u)
       unfolding pr_of parent_right
       pr_is u = go (has_ol h1.list (or u) (ol u))
         where
-          go : (b : Bool) → (cond b (or u) Nothing ≡ Nothing) ⊎ (cond b (or u) Nothing ≡ or u)
+          go : (b : Bool) → (cond b (or u) None ≡ None) ⊎ (cond b (or u) None ≡ or u)
           go true = inr refl
           go false = inl refl
 
-      none_key : key1 Nothing ≡ key2 Nothing
+      none_key : key1 None ≡ key2 None
       none_key = r1.good.none_key ∙ sym r2.good.none_key
 
       pr_key : (u : FugueSpan) → Mem u h1.list → Made h1 e u → key1 (pr_of h1.list u) ≡ key2 (pr_of h1.list u)
       pr_key u k m = go (pr_is u) (r1.good.or_in u k)
         where
-          go : (pr_of h1.list u ≡ Nothing) ⊎ (pr_of h1.list u ≡ or u) → In (or u) h1.list → key1 (pr_of h1.list u) ≡ key2 (pr_of h1.list u)
+          go : (pr_of h1.list u ≡ None) ⊎ (pr_of h1.list u ≡ or u) → In (or u) h1.list → key1 (pr_of h1.list u) ≡ key2 (pr_of h1.list u)
           go (inl q) i = subst (λ (z : OptId). key1 z ≡ key2 z) (sym q) none_key
           go (inr q) (inl x) = subst (λ (z : OptId). key1 z ≡ key2 z) (sym (q ∙ x)) none_key
           go (inr q) (inr t) = subst (λ (z : OptId). key1 z ≡ key2 z) (t.2 ∙ sym q) (ag.units t.0 t.1 (or_of_d u m t.0 t.2)).3

@@ -7,10 +7,10 @@ use mathlib.Core.List.Memᴰ
 use mathlib.Core.List.{List, [], ◌∷◌, ◌++◌, map}
 use lib.Dec.{eqb}
 use lib.ListN.{length}
+use Rattle.std.specs.Prelude.{Some}
 use Rattle.span.specs.declared.chunk.RichtextChunk.{RichtextChunk}
 use Rattle.span.specs.declared.ids.Id.{Id}
 use Rattle.span.specs.Maybe.{OptId}
-use Rattle.std.specs.Prelude.{Some as At}
 use Rattle.span.specs.declared.span.FugueSpan.{FugueSpan}
 use Rattle.span.specs.Ids.{UNKNOWN_PEER, inc_id, same_id, same_opt}
 use Rattle.span.specs.Status.{activated}
@@ -61,7 +61,7 @@ unfolding Likes mem_id
 likes_mem o [] [] k = refl
 likes_mem o [] (w ∷ ws) k = absurd k
 likes_mem o (u ∷ us) [] k = absurd k
-likes_mem o (u ∷ us) (w ∷ ws) k = ap₂ (λ (i : Id) (b : Bool). same_opt o (At i) || b) k.0.id (likes_mem o us ws k.1)
+likes_mem o (u ∷ us) (w ∷ ws) k = ap₂ (λ (i : Id) (b : Bool). same_opt o (Some i) || b) k.0.id (likes_mem o us ws k.1)
 
 -- the ids of the units whose ids pass a test
 abbrev pub kept_ids : (Id → Bool) → List FugueSpan → List Id

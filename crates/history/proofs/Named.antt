@@ -9,9 +9,9 @@ use native.Mathlib.Omega.{arith}
 use lib.Dec.{eqb}
 use lib.ListN.{length, length-map}
 use borrow.Author.Tests.{eqb-true}
+use Rattle.std.specs.Prelude.{Some}
 use Rattle.span.specs.declared.ids.Id.{Id}
 use Rattle.span.specs.Maybe.{OptId}
-use Rattle.std.specs.Prelude.{Some as At}
 use Rattle.span.specs.declared.span.FugueSpan.{FugueSpan}
 use Rattle.span.specs.Ids.{inc_id, same_id, same_opt}
 use Rattle.span.specs.Status.{activated}
@@ -48,12 +48,12 @@ all_natural [] f = tt
 all_natural (u ∷ l) f = (f u (Memᴰ.head refl), all_natural l (λ (w : FugueSpan) (m : Mem w l). f w (Memᴰ.tail m)))
 
 -- a unit's id is one of the units'
-mem_of : (us : List FugueSpan) (i : Id) (w : FugueSpan) → Mem w us → w.id ≡ i → mem_id (At i) us ≡ true
-mem_of us i w m d = go (mem_id_test (At i) us)
+mem_of : (us : List FugueSpan) (i : Id) (w : FugueSpan) → Mem w us → w.id ≡ i → mem_id (Some i) us ≡ true
+mem_of us i w m d = go (mem_id_test (Some i) us)
   where
-    go : Test (mem_id (At i) us) ((w : FugueSpan) × Mem w us × (ref w ≡ At i)) → mem_id (At i) us ≡ true
+    go : Test (mem_id (Some i) us) ((w : FugueSpan) × Mem w us × (ref w ≡ Some i)) → mem_id (Some i) us ≡ true
     go (pass b t) = b
-    go (fail b t) = absurd (t (w, m, ap At d))
+    go (fail b t) = absurd (t (w, m, ap Some d))
 
 -- ---- some of the units, in list order
 
@@ -99,7 +99,7 @@ unfolding taken
 taken_sub at n us = behind_sub (first_shown (behind us at) n) us at (first_sub (behind us at) n)
 
 -- those that a test picks, where it picks those by their ids
-keep_sub : (t : FugueSpan → Bool) (us T : List FugueSpan) → Sub T us → Distinct us → ((u : FugueSpan) → Mem u us → t u ≡ true → mem_id (At u.id) T ≡ true) → ((u : FugueSpan) → Mem u T → t u ≡ true) → keep_if t us ≡ T
+keep_sub : (t : FugueSpan → Bool) (us T : List FugueSpan) → Sub T us → Distinct us → ((u : FugueSpan) → Mem u us → t u ≡ true → mem_id (Some u.id) T ≡ true) → ((u : FugueSpan) → Mem u T → t u ≡ true) → keep_if t us ≡ T
 unfolding Sub Distinct keep_if mem_id
 keep_sub t [] [] s d f g = refl
 keep_sub t [] (x ∷ T) s d f g = absurd s
@@ -110,24 +110,24 @@ keep_sub t (u ∷ us) [] s d f g = go (t u) refl (keep_sub t us [] tt d.1 (λ (v
     go false q ih = ih
 keep_sub t (u ∷ us) (x ∷ T) s d f g =
     go s (t u) refl
-    (λ (q : x ≡ u) (k : Sub T us). keep_sub t us T k d.1 (λ (v : FugueSpan) (m : Mem v us) (p : t v ≡ true). other q v m (same_opt_test (At v.id) (At x.id)) (f v (Memᴰ.tail m) p)) (λ (v : FugueSpan) (m : Mem v T). g v (Memᴰ.tail m)))
+    (λ (q : x ≡ u) (k : Sub T us). keep_sub t us T k d.1 (λ (v : FugueSpan) (m : Mem v us) (p : t v ≡ true). other q v m (same_opt_test (Some v.id) (Some x.id)) (f v (Memᴰ.tail m) p)) (λ (v : FugueSpan) (m : Mem v T). g v (Memᴰ.tail m)))
     (λ (k : Sub (x ∷ T) us). keep_sub t us (x ∷ T) k d.1 (λ (v : FugueSpan) (m : Mem v us). f v (Memᴰ.tail m)) g)
   where
-    new : mem_id (At u.id) us ≡ true → ⊥
+    new : mem_id (Some u.id) us ≡ true → ⊥
     new e = true≢false (sym e ∙ d.0)
 
-    other : x ≡ u → (v : FugueSpan) → Mem v us → Test (same_opt (At v.id) (At x.id)) (At v.id ≡ At x.id) → (same_opt (At v.id) (At x.id) || mem_id (At v.id) T) ≡ true → mem_id (At v.id) T ≡ true
-    other q v m (pass b p) e = absurd (new (ap (λ (o : OptId). mem_id o us) (sym (p ∙ ap (λ (z : FugueSpan). At z.id) q)) ∙ mem_of us v.id v m refl))
-    other q v m (fail b p) e = ap (λ (z : Bool). z || mem_id (At v.id) T) (sym b) ∙ e
+    other : x ≡ u → (v : FugueSpan) → Mem v us → Test (same_opt (Some v.id) (Some x.id)) (Some v.id ≡ Some x.id) → (same_opt (Some v.id) (Some x.id) || mem_id (Some v.id) T) ≡ true → mem_id (Some v.id) T ≡ true
+    other q v m (pass b p) e = absurd (new (ap (λ (o : OptId). mem_id o us) (sym (p ∙ ap (λ (z : FugueSpan). Some z.id) q)) ∙ mem_of us v.id v m refl))
+    other q v m (fail b p) e = ap (λ (z : Bool). z || mem_id (Some v.id) T) (sym b) ∙ e
 
-    found : Sub (x ∷ T) us → Test (mem_id (At u.id) (x ∷ T)) ((w : FugueSpan) × Mem w (x ∷ T) × (ref w ≡ At u.id)) → mem_id (At u.id) (x ∷ T) ≡ true → ⊥
+    found : Sub (x ∷ T) us → Test (mem_id (Some u.id) (x ∷ T)) ((w : FugueSpan) × Mem w (x ∷ T) × (ref w ≡ Some u.id)) → mem_id (Some u.id) (x ∷ T) ≡ true → ⊥
     found k (pass b r) e = new (ap (λ (o : OptId). mem_id o us) (sym r.2) ∙ mem_of us r.0.id r.0 (sub_in (x ∷ T) us k r.0 r.1) refl)
     found k (fail b r) e = true≢false (sym e ∙ b)
 
     go : ((x ≡ u) × Sub T us) ⊎ Sub (x ∷ T) us → (b : Bool) → t u ≡ b → (x ≡ u → Sub T us → keep_if t us ≡ T) → (Sub (x ∷ T) us → keep_if t us ≡ x ∷ T) → cond b (u ∷ keep_if t us) (keep_if t us) ≡ x ∷ T
     go (inl k) true p ih ih2 = ap₂ ◌∷◌ (sym k.0) (ih k.0 k.1)
     go (inl k) false p ih ih2 = absurd (true≢false (sym (g x (Memᴰ.head refl)) ∙ (ap t k.0 ∙ p)))
-    go (inr k) true p ih ih2 = absurd (found k (mem_id_test (At u.id) (x ∷ T)) (f u (Memᴰ.head refl) p))
+    go (inr k) true p ih ih2 = absurd (found k (mem_id_test (Some u.id) (x ∷ T)) (f u (Memᴰ.head refl) p))
     go (inr k) false p ih ih2 = ih2 k
 
 -- ---- what a delete takes
@@ -160,7 +160,7 @@ module _ (us : List FugueSpan) (d : Distinct us) (nat : Naturals us) (at n : ℕ
       (λ (u : FugueSpan) (m : Mem u us) (e : in_ranges u.id R ≡ true). from u (Memᴰ.of_map id_of T (ranges_from (map id_of T) u.id nat_T (nat u m) e)))
       (λ (u : FugueSpan) (m : Mem u T). ranges_to (map id_of T) u.id nat_T (nat u (sub_in T us (taken_sub at n us) u m)) (Memᴰ.map id_of m)))
     where
-      from : (u : FugueSpan) → (w : FugueSpan) × Mem w T × (id_of w ≡ u.id) → mem_id (At u.id) T ≡ true
+      from : (u : FugueSpan) → (w : FugueSpan) × Mem w T × (id_of w ≡ u.id) → mem_id (Some u.id) T ≡ true
       from u t = mem_of T u.id t.0 t.1 t.2
 
   pub taken_total : at + n ≤ shown us → total R ≡ n
@@ -205,7 +205,7 @@ module _ (us : List FugueSpan) (nat : Naturals us) (rs : List Range) (own : same
   abbrev t : FugueSpan → Bool
   t u = in_ranges u.id rs
 
-  in_us : (i : Id) → Natural i → in_ranges i rs ≡ true → mem_id (At i) us ≡ true
+  in_us : (i : Id) → Natural i → in_ranges i rs ≡ true → mem_id (Some i) us ≡ true
   in_us i ni e = from (Memᴰ.of_map id_of kept (ranges_from (map id_of kept) i
       (all_natural kept (λ (u : FugueSpan) (m : Mem u kept). nat u (keep_if_in (λ (u : FugueSpan). in_ranges u.id rs) us u m).0)) ni
       (ap (in_ranges i) (sym is) ∙ e)))
@@ -213,7 +213,7 @@ module _ (us : List FugueSpan) (nat : Naturals us) (rs : List Range) (own : same
       is : rs ≡ ranges_of (map id_of kept)
       is = unfold ranges_in in same_ranges-true rs (ranges_of (map id_of kept)) own
 
-      from : (w : FugueSpan) × Mem w kept × (id_of w ≡ i) → mem_id (At i) us ≡ true
+      from : (w : FugueSpan) × Mem w kept × (id_of w ≡ i) → mem_id (Some i) us ≡ true
       from t = mem_of us i t.0 (keep_if_in (λ (u : FugueSpan). in_ranges u.id rs) us t.0 t.1).0 t.2
 
   pub splice_named : (y : FugueSpan) (us2 : List FugueSpan) → Natural y.id → Fresh y us → Splice us (units_of y) us2 → ranges_in us2 rs ≡ ranges_in us rs

@@ -11,8 +11,8 @@ use lib.IntN.{ℤ, pos, negsuc}
 use lib.ListN.{length}
 use lib.Signed.{le_z}
 use borrow.Author.Tests.{eqb-true, leb-true, le-leb, ne_eqb}
+use Rattle.std.specs.Prelude.{Some}
 use Rattle.span.specs.declared.ids.Id.{Id}
-use Rattle.std.specs.Prelude.{Some as At}
 use Rattle.span.specs.Ids.{id, room_opt}
 use Rattle.span.specs.Status.{eq_z}
 use Rattle.units.specs.Limits.{PEERS}
@@ -95,7 +95,7 @@ four_of false b c d f g h = absurd (let z : ⊥ = omega arith in z)
 
 peer_fits : (held : List Held) (e : Edit) → edit_code held e ≡ 0 → (has_peer held e.id.peer || not (leb PEERS (peer_count held))) ≡ true
 unfolding edit_code
-peer_fits held e h = four_of (act_formed e.act) (room_opt (At e.id) (size e) && act_ids e.act) (has_peer held e.id.peer || not (leb PEERS (peer_count held)))
+peer_fits held e h = four_of (act_formed e.act) (room_opt (Some e.id) (size e) && act_ids e.act) (has_peer held e.id.peer || not (leb PEERS (peer_count held)))
     (eq_z e.id.counter (pos (held_count held e.id.peer))) (named held e.context) (closed held e.context && own_count e) h
 
 one_more : (l : List Held) (x : Held) → peer_count l ≤ 16 → (has_peer l x.edit.id.peer || not (leb PEERS (peer_count l))) ≡ true → peer_count (l ++ (x ∷ [])) ≤ 16
@@ -141,7 +141,7 @@ pairs_most held v h e = omega (arith, pairs_few held v e, peers_few held h)
 
 abbrev code_by : List Held → Id → Act → Bool → Bool → ℕ
 code_by held i a six seven =
-    cond (act_formed a) (cond (room_opt (At i) (size_of a) && act_ids a) (cond (has_peer held i.peer || not (leb PEERS (peer_count held))) (cond (eq_z i.counter (pos (held_count held i.peer))) (cond six (cond seven 0 7) 6) 5) 4) 2) 1
+    cond (act_formed a) (cond (room_opt (Some i) (size_of a) && act_ids a) (cond (has_peer held i.peer || not (leb PEERS (peer_count held))) (cond (eq_z i.counter (pos (held_count held i.peer))) (cond six (cond seven 0 7) 6) 5) 4) 2) 1
 
 -- the number of an edit whose context is not named does not depend on the context
 pub not_named_code : (held : List Held) (e f : Edit) → f.id ≡ e.id → f.act ≡ e.act → named held e.context ≡ false → named held f.context ≡ false → edit_code held f ≡ edit_code held e

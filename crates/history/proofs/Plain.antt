@@ -6,11 +6,10 @@ use mathlib.Core.Bool.{Bool, true, false, not, cond}
 use mathlib.Core.List.{List, [], ◌∷◌, map}
 use lib.Dec.{eqb}
 use lib.IntN.{pos}
+use Rattle.std.specs.Prelude.{None, Some}
 use Rattle.span.specs.declared.ids.Id.{Id}
 use Rattle.span.specs.Maybe.{OptId}
-use Rattle.std.specs.Prelude.{None as Nothing, Some as At}
 use Rattle.span.specs.declared.status.Status.{Status}
-use Rattle.std.specs.Prelude as Opt
 use Rattle.span.specs.declared.span.FugueSpan.{FugueSpan}
 use Rattle.span.specs.Ids.{UNKNOWN_PEER}
 use Rattle.span.specs.Status.{status, activated}
@@ -27,11 +26,11 @@ use Rattle.history.specs.Checkout as Co
 use Rattle.history.specs.Demand.{real_plain, no_real}
 
 unfoldable pub plain : FugueSpan → FugueSpan
-plain u = with_state u (status false (pos 0)) Opt.None (real_plain u)
+plain u = with_state u (status false (pos 0)) None (real_plain u)
 
 -- at a version
 unfoldable pub view : Version → List Held → FugueSpan → FugueSpan
-view v held u = with_state u (status_at v held u.id) Opt.None (real_plain u)
+view v held u = with_state u (status_at v held u.id) None (real_plain u)
 
 -- the units of a version, in list order: what an edit with this context sees
 abbrev pub sees : Version → History → List FugueSpan
@@ -63,7 +62,7 @@ view-plain v A B u w e d = λ i. record {
   lamport = (e i).lamport;
   real_id = (e i).real_id;
   status = status (not (in_version v (e i).id)) (pos (d i));
-  diff_status = Opt.None;
+  diff_status = None;
   origin_left = (e i).origin_left;
   origin_right = (e i).origin_right;
   content = (e i).content;
@@ -71,12 +70,12 @@ view-plain v A B u w e d = λ i. record {
 
 pub plain-view : (v : Version) (held : List Held) (u : FugueSpan) → plain (view v held u) ≡ plain u
 unfolding plain view with_state
-plain-view v held u = ap (λ (r : OptId). with_state u (status false (pos 0)) Opt.None r) (twice u)
+plain-view v held u = ap (λ (r : OptId). with_state u (status false (pos 0)) None r) (twice u)
   where
-    twice : (u : FugueSpan) → real_plain (with_state u (status_at v held u.id) Opt.None (real_plain u)) ≡ real_plain u
+    twice : (u : FugueSpan) → real_plain (with_state u (status_at v held u.id) None (real_plain u)) ≡ real_plain u
     twice u = unfold real_plain in go (eqb u.id.peer UNKNOWN_PEER) u.real_id
       where
-        go : (b : Bool) (r : OptId) → cond b Nothing (cond b Nothing r) ≡ cond b Nothing r
+        go : (b : Bool) (r : OptId) → cond b None (cond b None r) ≡ cond b None r
         go true r = refl
         go false r = refl
 
@@ -104,12 +103,12 @@ module _ (f : FugueSpan → FugueSpan) (k : Reads f) where
   last_id_map : (r : OptId) (l : List FugueSpan) → last_id r (map f l) ≡ last_id r l
   unfolding last_id
   last_id_map r [] = refl
-  last_id_map r (v ∷ l) = ap (λ (i : Id). last_id (At i) (map f l)) (k.id v) ∙ last_id_map (At v.id) l
+  last_id_map r (v ∷ l) = ap (λ (i : Id). last_id (Some i) (map f l)) (k.id v) ∙ last_id_map (Some v.id) l
 
   first_past_map : (l : List FugueSpan) → first_past (map f l) ≡ first_past l
   unfolding first_past
   first_past_map [] = refl
-  first_past_map (v ∷ l) = λ i. cond (k.status v i).future (first_past_map l i) (At (k.id v i))
+  first_past_map (v ∷ l) = λ i. cond (k.status v i).future (first_past_map l i) (Some (k.id v i))
 
   pub shown_map : (l : List FugueSpan) → shown (map f l) ≡ shown l
   unfolding shown
@@ -138,7 +137,7 @@ module _ (f : FugueSpan → FugueSpan) (k : Reads f) where
 
   pub origin_left_map : (n : ℕ) (l : List FugueSpan) → origin_left n (map f l) ≡ origin_left n l
   unfolding origin_left
-  origin_left_map n l = ap (last_id Nothing) (front_map l n) ∙ last_id_map Nothing (front l n)
+  origin_left_map n l = ap (last_id None) (front_map l n) ∙ last_id_map None (front l n)
 
   pub origin_right_map : (n : ℕ) (l : List FugueSpan) → origin_right n (map f l) ≡ origin_right n l
   unfolding origin_right

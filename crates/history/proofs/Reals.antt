@@ -7,10 +7,10 @@ use mathlib.Core.List.Memᴰ
 use mathlib.Core.List.{List, [], ◌∷◌, ◌++◌, map, Memᴰ}
 use lib.Dec.{eqb}
 use borrow.Author.Tests.{ne_eqb, eqb-false}
+use Rattle.std.specs.Prelude.{None, Some}
 use Rattle.span.specs.declared.chunk.RichtextChunk.{RichtextChunk}
 use Rattle.span.specs.declared.ids.Id.{Id}
 use Rattle.span.specs.Maybe.{OptId}
-use Rattle.std.specs.Prelude.{None as Nothing, Some as At}
 use Rattle.span.specs.declared.span.FugueSpan.{FugueSpan}
 use Rattle.span.specs.Ids.{UNKNOWN_PEER, inc_id, inc_opt}
 use Rattle.span.proofs.IdsLaws.{inc_opt_zero}
@@ -49,7 +49,7 @@ use Rattle.history.proofs.WellUnits.{Units1, units_between_lem, all_of}
 use Rattle.history.proofs.Valid.{every_of}
 
 abbrev pub HasReal : FugueSpan → Type 0
-HasReal u = (i : Id) × (u.real_id ≡ At i)
+HasReal u = (i : Id) × (u.real_id ≡ Some i)
 
 -- whatever a delete took has a real id
 unfoldable pub Touched : History → Type 0
@@ -64,9 +64,9 @@ real_deleted : (i : Id) (u : FugueSpan) → HasReal (delete_unit i u)
 unfolding delete_unit with_state
 real_deleted i u = go u.real_id
   where
-    go : (r : OptId) → (j : Id) × (or_real r i ≡ At j)
-    go Nothing = (i, refl)
-    go (At j) = (j, refl)
+    go : (r : OptId) → (j : Id) × (or_real r i ≡ Some j)
+    go None = (i, refl)
+    go (Some j) = (j, refl)
 
 record After (l : List FugueSpan) (ids : List Id) (u : FugueSpan) : Type 0 where
   was : FugueSpan
@@ -83,7 +83,7 @@ after_first key (v ∷ l) (suc m) i s u k = go (activated v.status) k (after_fir
   where
     -- no other unit has this id
     alone : (w : FugueSpan) → Mem w l → w.id ≡ v.id → ⊥
-    alone w j d = Lt-irrefl (key (ref v)) (subst (λ (z : Id). Lt (key (ref v)) (key (At z))) d (s.0 w j))
+    alone w j d = Lt-irrefl (key (ref v)) (subst (λ (z : Id). Lt (key (ref v)) (key (Some z))) d (s.0 w j))
 
     up : (ids : List Id) → After l ids u → (Memᴰ u.id (v.id ∷ ids) → HasReal u) → After (v ∷ l) (v.id ∷ ids) u
     up ids t g = record { was = t.was; was_in = Memᴰ.tail t.was_in; same = t.same; stays = t.stays; given = g }
@@ -165,7 +165,7 @@ module _ (n : ℕ) (done : List Edit) (h : History) (key : OptId → Key) (r : R
     insert_real lam c u k = go (splice_from (insert_splice e.at (new_span e.id lam c) l1) u k)
       where
         new : (x o : OptId) (i : ℕ) → HasReal (Units.unit_at (with_origins (new_span e.id lam c) x o) i)
-        new x o i = (inc_id e.id i, (unfold shift with_origins new_span real_new inc_opt in ap (λ (b : Bool). inc_opt (cond b Nothing (At e.id)) i) (ne_eqb e.id.peer UNKNOWN_PEER a.known)))
+        new x o i = (inc_id e.id i, (unfold shift with_origins new_span real_new inc_opt in ap (λ (b : Bool). inc_opt (cond b None (Some e.id)) i) (ne_eqb e.id.peer UNKNOWN_PEER a.known)))
 
         go : Mem u l1 ⊎ Mem u (units_of (with_origins (new_span e.id lam c) (origin_left e.at l1) (origin_right e.at l1))) → Mem u l1 ⊎ HasReal u
         go (inl j) = inl j
@@ -193,7 +193,7 @@ module _ (n : ℕ) (done : List Edit) (h : History) (key : OptId → Key) (r : R
         B = behind l1 e.at
 
         clash : Mem u (front l1 e.at) → (w : FugueSpan) × Mem w (first_shown (behind l1 e.at) m) × (id_of w ≡ u.id) → ⊥
-        clash j q = Lt-irrefl (key (ref u)) (subst (λ (z : Id). Lt (key (ref u)) (key (At z))) q.2 (sorted_cross key (front l1 e.at) (behind l1 e.at) sorted1 u q.0 j (first_in (behind l1 e.at) m q.0 q.1)))
+        clash j q = Lt-irrefl (key (ref u)) (subst (λ (z : Id). Lt (key (ref u)) (key (Some z))) q.2 (sorted_cross key (front l1 e.at) (behind l1 e.at) sorted1 u q.0 j (first_in (behind l1 e.at) m q.0 q.1)))
 
         go : Mem u (front l1 e.at) ⊎ Mem u (delete_first (behind l1 e.at) m target) → After l1 (map id_of (first_shown (behind l1 e.at) m)) u
         go (inl j) = record {

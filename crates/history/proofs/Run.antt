@@ -9,10 +9,10 @@ use mathlib.Core.List.{List, [], map, Memᴰ}
 use lib.ListN.{length}
 use native.Mathlib.Omega.{arith}
 use borrow.Author.Tests.{leb-true}
+use Rattle.std.specs.Prelude.{None, Some}
 use Rattle.span.specs.declared.chunk.RichtextChunk.{RichtextChunk}
 use Rattle.span.specs.declared.ids.Id.{Id}
 use Rattle.span.specs.Maybe.{OptId}
-use Rattle.std.specs.Prelude.{None as Nothing, Some as At}
 use Rattle.span.specs.declared.span.FugueSpan.{FugueSpan}
 use Rattle.span.specs.Chunk.{len_of}
 use Rattle.span.specs.Ids.{UNKNOWN_PEER, inc_id}
@@ -76,7 +76,7 @@ module _ {h : History} {e : Edit} {w : FugueSpan} (m : Made h e w) where
   unfolding left_of with_origins
   made_first d = made_left ∙ ap (left_of (span_of e m.lam m.c (before e h))) d
 
-  pub made_later : (j : ℕ) → m.k ≡ suc j → ol w ≡ At (inc_id e.id j)
+  pub made_later : (j : ℕ) → m.k ≡ suc j → ol w ≡ Some (inc_id e.id j)
   unfolding left_of with_origins new_span
   made_later j d = made_left ∙ ap (left_of (span_of e m.lam m.c (before e h))) d
 
@@ -153,7 +153,7 @@ module _ (n : ℕ) (done : List Edit) (h : History) (key : OptId → Key) (r : R
 
   -- L8.2: the units of a context that fits are closed under origin left
   pub context_closed : (e : Edit) → Known e → Fits (clock n) done e → (v : FugueSpan) → Mem v (units_at e.context h) → v.status.future ≡ false
-      → (ol v ≡ Nothing) ⊎ ((w : FugueSpan) × Mem w (units_at e.context h) × (ref w ≡ ol v) × (w.status.future ≡ false))
+      → (ol v ≡ None) ⊎ ((w : FugueSpan) × Mem w (units_at e.context h) × (ref w ≡ ol v) × (w.status.future ≡ false))
   unfolding units_at Co.unit_at with_state
   context_closed e ke fits v m fut = top (Memᴰ.of_map co h.list m)
     where
@@ -161,7 +161,7 @@ module _ (n : ℕ) (done : List Edit) (h : History) (key : OptId → Key) (r : R
       co = Co.unit_at e.context h.held
 
       R : OptId → Type 0
-      R x = (x ≡ Nothing) ⊎ ((w : FugueSpan) × Mem w (map co h.list) × (ref w ≡ x) × (w.status.future ≡ false))
+      R x = (x ≡ None) ⊎ ((w : FugueSpan) × Mem w (map co h.list) × (ref w ≡ x) × (w.status.future ≡ false))
 
       found : (x : OptId) (w : FugueSpan) → Mem w h.list → ref w ≡ x → num w < count n e.context w.id.peer → R x
       found x w mw d k = inr (co w, Memᴰ.map co mw, d, past_of_lem n e.context h.held w.id (unit_natural w mw) k)
@@ -173,7 +173,7 @@ module _ (n : ℕ) (done : List Edit) (h : History) (key : OptId → Key) (r : R
           x : OptId
           x = origin_left f.at (sees f.context h)
 
-          go : (x ≡ Nothing) ⊎ ((w : FugueSpan) × Mem w (sees f.context h) × (ref w ≡ x) × (w.status.future ≡ false)) → R x
+          go : (x ≡ None) ⊎ ((w : FugueSpan) × Mem w (sees f.context h) × (ref w ≡ x) × (w.status.future ≡ false)) → R x
           go (inl d) = inl d
           go (inr t) =
               let s : (a : FugueSpan) × Mem a h.list × (view f.context h.held a ≡ t.0) × (num a < count n f.context a.id.peer) × (not_future t.0 ≡ true) = seen_from f.context t.0 t.1 in
@@ -187,18 +187,18 @@ module _ (n : ℕ) (done : List Edit) (h : History) (key : OptId → Key) (r : R
       of_first : (f : Edit) → MemE f done → first f < holds n e f.id.peer → R (origin_left f.at (before f h))
       of_first f mf k = pick (known_or f)
         where
-          none : (l : List FugueSpan) → l ≡ [] → origin_left f.at l ≡ Nothing
+          none : (l : List FugueSpan) → l ≡ [] → origin_left f.at l ≡ None
           none l d = ap (origin_left f.at) d ∙ (unfold origin_left front last_id in refl)
 
           pick : Known f ⊎ (f.id.peer ≡ UNKNOWN_PEER) → R (origin_left f.at (before f h))
           pick (inl kf) = subst (λ (z : List FugueSpan). R (origin_left f.at z)) (sym (before_known f h kf)) (of_known f mf kf k)
           pick (inr d) = inl (none (before f h) (before_unknown f h d))
 
-      of_later : (f : Edit) (u : FugueSpan) (j : ℕ) → MemE f done → Mem u h.list → ol u ≡ At (inc_id f.id j) → u.id.peer ≡ f.id.peer → num u ≡ first f + suc j
+      of_later : (f : Edit) (u : FugueSpan) (j : ℕ) → MemE f done → Mem u h.list → ol u ≡ Some (inc_id f.id j) → u.id.peer ≡ f.id.peer → num u ≡ first f + suc j
           → num u < count n e.context u.id.peer → In (ol u) h.list → R (ol u)
       of_later f u j mf mu d p q k (inl x) = inl x
       of_later f u j mf mu d p q k (inr t) =
-          let i : ref t.0 ≡ At (inc_id f.id j) = t.2 ∙ d in
+          let i : ref t.0 ≡ Some (inc_id f.id j) = t.2 ∙ d in
           let i2 : t.0.id ≡ inc_id f.id j = cc in
           let a : num t.0 ≡ first f + j = ap (λ (z : Id). number z.counter) i2 ∙ (natural_inc f.id j (r.natural f mf)).1 in
           let b : t.0.id.peer ≡ u.id.peer = ap (λ (z : Id). z.peer) i2 ∙ (unfold inc_id in sym p) in

@@ -6,9 +6,9 @@ use mathlib.Core.Bool.{Bool, true, false, ◌&&◌, cond}
 use mathlib.Core.List.Memᴰ
 use mathlib.Core.List.{List, [], ◌∷◌, ◌++◌, map}
 use native.Mathlib.Omega.{arith}
+use Rattle.std.specs.Prelude.{None, Some}
 use Rattle.span.specs.declared.ids.Id.{Id}
 use Rattle.span.specs.Maybe.{OptId}
-use Rattle.std.specs.Prelude.{None as Nothing, Some as At}
 use Rattle.span.specs.declared.span.FugueSpan.{FugueSpan}
 use Rattle.span.specs.Status.{activated}
 use Rattle.units.specs.Lists.{keep_if}
@@ -51,28 +51,28 @@ behind_sub [] n w m = m
 behind_sub (v ∷ l) zero w m = m
 behind_sub (v ∷ l) (suc n) w m = Memᴰ.tail (behind_sub l (cond (activated v.status) n (suc n)) w m)
 
-first_past_in : (l : List FugueSpan) → (first_past l ≡ Nothing) ⊎ ((w : FugueSpan) × Mem w l × (ref w ≡ first_past l))
+first_past_in : (l : List FugueSpan) → (first_past l ≡ None) ⊎ ((w : FugueSpan) × Mem w l × (ref w ≡ first_past l))
 unfolding first_past
 first_past_in [] = inl refl
 first_past_in (v ∷ l) = go v.status.future (first_past_in l)
   where
-    go : (b : Bool) → (first_past l ≡ Nothing) ⊎ ((w : FugueSpan) × Mem w l × (ref w ≡ first_past l)) → (cond b (first_past l) (ref v) ≡ Nothing) ⊎ ((w : FugueSpan) × Mem w (v ∷ l) × (ref w ≡ cond b (first_past l) (ref v)))
+    go : (b : Bool) → (first_past l ≡ None) ⊎ ((w : FugueSpan) × Mem w l × (ref w ≡ first_past l)) → (cond b (first_past l) (ref v) ≡ None) ⊎ ((w : FugueSpan) × Mem w (v ∷ l) × (ref w ≡ cond b (first_past l) (ref v)))
     go true (inl e) = inl e
     go true (inr t) = inr (t.0, Memᴰ.tail t.1, t.2)
     go false s = inr (v, Memᴰ.head refl, refl)
 
-pub origin_right_in : (l : List FugueSpan) (n : ℕ) → (origin_right n l ≡ Nothing) ⊎ ((w : FugueSpan) × Mem w l × (ref w ≡ origin_right n l))
+pub origin_right_in : (l : List FugueSpan) (n : ℕ) → (origin_right n l ≡ None) ⊎ ((w : FugueSpan) × Mem w l × (ref w ≡ origin_right n l))
 unfolding origin_right
 origin_right_in l n = go (first_past_in (behind l n))
   where
-    go : (first_past (behind l n) ≡ Nothing) ⊎ ((w : FugueSpan) × Mem w (behind l n) × (ref w ≡ first_past (behind l n))) → (first_past (behind l n) ≡ Nothing) ⊎ ((w : FugueSpan) × Mem w l × (ref w ≡ first_past (behind l n)))
+    go : (first_past (behind l n) ≡ None) ⊎ ((w : FugueSpan) × Mem w (behind l n) × (ref w ≡ first_past (behind l n))) → (first_past (behind l n) ≡ None) ⊎ ((w : FugueSpan) × Mem w l × (ref w ≡ first_past (behind l n)))
     go (inl e) = inl e
     go (inr t) = inr (t.0, behind_sub l n t.0 t.1, t.2)
 
-pub at_id : {i j : Id} → At i ≡ At j → i ≡ j
+pub at_id : {i j : Id} → Some i ≡ Some j → i ≡ j
 at_id {i} {j} e = cc
 
-pub hung_same : (k1 k2 : OptId → Key) {x : OptId} {p : Id} {r : OptId} → Hung k1 x p r → {r2 : OptId} → Hung k2 x p r2 → r ≡ r2 → k1 x ≡ k2 x → k1 r ≡ k2 r → k1 (At p) ≡ k2 (At p)
+pub hung_same : (k1 k2 : OptId → Key) {x : OptId} {p : Id} {r : OptId} → Hung k1 x p r → {r2 : OptId} → Hung k2 x p r2 → r ≡ r2 → k1 x ≡ k2 x → k1 r ≡ k2 r → k1 (Some p) ≡ k2 (Some p)
 hung_same k1 k2 {x} {p} (hung_r e) (hung_r d) q ex er = e ∙ (ap (λ (z : Key). z ++ sr p ∷ []) ex ∙ sym d)
 hung_same k1 k2 {x} {p} (hung_r e) (hung_l s ms ir al er2 ek) q ex er = absurd (none≢at q)
 hung_same k1 k2 {x} {p} (hung_l s ms ir al er2 ek) (hung_r d) q ex er = absurd (none≢at (sym q))

@@ -10,8 +10,8 @@ use native.Mathlib.Omega.{arith}
 use lib.Dec.{leb, eqb}
 use lib.IntN.{ℤ, pos}
 use borrow.Author.Tests.{leb-true, eqb-false, not-true}
+use Rattle.std.specs.Prelude.{Some}
 use Rattle.span.specs.declared.ids.Id.{Id}
-use Rattle.std.specs.Prelude.{Some as At}
 use Rattle.span.specs.Chunk.{UNKNOWN, chunk}
 use Rattle.span.specs.Ids.{UNKNOWN_PEER, room_of, room_opt}
 use Rattle.span.proofs.IdsLaws.{Room, roomy}
@@ -32,7 +32,7 @@ use Rattle.history.proofs.Ranks.{rank-lt, own_order}
 
 -- ---- single edits
 
-pub room_known : (i : Id) (n : ℕ) → room_opt (At i) n ≡ true → ¬ (i.peer ≡ UNKNOWN_PEER) × Natural i
+pub room_known : (i : Id) (n : ℕ) → room_opt (Some i) n ≡ true → ¬ (i.peer ≡ UNKNOWN_PEER) × Natural i
 unfolding room_opt
 room_known i n e =
     let t = (and-eq-true_iff (not (eqb i.peer UNKNOWN_PEER)) (room_of i n)).0 e in
@@ -76,7 +76,7 @@ module _ (n : ℕ) (S : List Edit) (wf : WellFormedSet S) where
   all = base n ++ S
 
   pub sound : (e : Edit) → InSet e S → Sound e
-  sound e m = room_known e.id (size e) ((and-eq-true_iff (room_opt (At e.id) (size e)) (act_ids e.act)).0 (wf.ids e m)).0
+  sound e m = room_known e.id (size e) ((and-eq-true_iff (room_opt (Some e.id) (size e)) (act_ids e.act)).0 (wf.ids e m)).0
 
   holds-holder : (e : Edit) → e ≡ holder n → (p : ℕ) → holds n e p ≡ 0
   holds-holder e d p = ap (λ (z : Edit). holds n z p) d ∙ zero_of

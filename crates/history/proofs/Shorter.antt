@@ -6,8 +6,8 @@ use mathlib.Core.Bool.{Bool, true, false, cond}
 use mathlib.Core.List.Memᴰ
 use mathlib.Core.List.{List, [], ◌∷◌, ◌++◌, map, append_assoc}
 use lib.ListN.{length, length-map}
+use Rattle.std.specs.Prelude.{None}
 use Rattle.span.specs.Maybe.{OptId}
-use Rattle.std.specs.Prelude as Opt
 use Rattle.span.specs.declared.span.FugueSpan.{FugueSpan}
 use Rattle.span.specs.Span.{len_span, ids_ok, span_code, joins_span, merged_span, shift, left_of}
 use Rattle.span.proofs.UnitLaws.{merge_units}
@@ -66,7 +66,7 @@ shortest l us f e =
 -- ---- without diff_status
 
 drop_diff : FugueSpan → FugueSpan
-drop_diff u = with_state u u.status Opt.None u.real_id
+drop_diff u = with_state u u.status None u.real_id
 
 left_drop : (s : FugueSpan) (i : ℕ) → left_of (drop_diff s) i ≡ left_of s i
 unfolding left_of drop_diff with_state

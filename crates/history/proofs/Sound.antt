@@ -10,7 +10,7 @@ use lib.Dec.{eqb, leb}
 use lib.IntN.{pos}
 use lib.ListN.{length}
 use borrow.Author.Tests.{eqb-true, leb-true, le-leb, eq-eqb}
-use Rattle.std.specs.Prelude.{Some as At}
+use Rattle.std.specs.Prelude.{Some}
 use Rattle.span.specs.Ids.{room_opt}
 use Rattle.span.specs.Status.{eq_z}
 use Rattle.span.proofs.StatusLaws.{eq_z-true}
@@ -70,7 +70,7 @@ of_sound spans targets h s = ap₂ ◌&&◌
 
 pub record EditOk (held : List Held) (e : Edit) : Type 0 where
   pub formed : act_formed e.act ≡ true
-  pub room : room_opt (At e.id) (size e) ≡ true
+  pub room : room_opt (Some e.id) (size e) ≡ true
   pub ids : act_ids e.act ≡ true
   pub known : Known e
   pub natural : Natural e.id
@@ -98,9 +98,9 @@ six_back false b c d f g h = absurd (let z : ⊥ = omega arith in z)
 pub edit_ok : (held : List Held) (e : Edit) → edit_code held e ≡ 0 → EditOk held e
 unfolding edit_code
 edit_ok held e h =
-    let s = six_back (act_formed e.act) (room_opt (At e.id) (size e) && act_ids e.act) (has_peer held e.id.peer || not (leb PEERS (peer_count held)))
+    let s = six_back (act_formed e.act) (room_opt (Some e.id) (size e) && act_ids e.act) (has_peer held e.id.peer || not (leb PEERS (peer_count held)))
     (eq_z e.id.counter (pos (held_count held e.id.peer))) (named held e.context) (closed held e.context && own_count e) h in
-    let t = (and-eq-true_iff (room_opt (At e.id) (size e)) (act_ids e.act)).0 s.two in
+    let t = (and-eq-true_iff (room_opt (Some e.id) (size e)) (act_ids e.act)).0 s.two in
     let k = room_known e.id (size e) t.0 in
     let c = (and-eq-true_iff (closed held e.context) (own_count e)).0 s.seven in
     record {

@@ -8,10 +8,9 @@ use mathlib.Core.List.Memᴰ
 use mathlib.Core.List.{List, [], ◌∷◌, ◌++◌, map, nil≢cons, head-eq_of_cons-eq, tail-eq_of_cons-eq}
 use lib.Dec.{leb, eqb}
 use lib.IntN.{pos}
+use Rattle.std.specs.Prelude.{None, Some}
 use Rattle.span.specs.declared.ids.Id.{Id}
 use Rattle.span.specs.Maybe.{OptId}
-use Rattle.std.specs.Prelude.{None as Nothing, Some as At}
-use Rattle.std.specs.Prelude as Opt
 use Rattle.span.specs.declared.span.FugueSpan.{FugueSpan}
 use Rattle.span.specs.Ids.{UNKNOWN_PEER, inc_id}
 use Rattle.span.specs.Status.{status, activated}
@@ -79,15 +78,15 @@ plain_mem l m e w k = Memᴰ.of_map plain l (subst (λ (z : List FugueSpan). Mem
 -- ---- a delete: each unit has a real id or is a placeholder's, so deletes change nothing that is plain
 
 abbrev pub Real : FugueSpan → Type 0
-Real u = (u.id.peer ≡ UNKNOWN_PEER) ⊎ ((i : Id) × (u.real_id ≡ At i))
+Real u = (u.id.peer ≡ UNKNOWN_PEER) ⊎ ((i : Id) × (u.real_id ≡ Some i))
 
 plain_deleted : (i : Id) (u : FugueSpan) → Real u → plain (delete_unit i u) ≡ plain u
 unfolding plain delete_unit with_state real_plain
-plain_deleted i u (inl e) = ap (λ (r : OptId). with_state u (status false (pos 0)) Opt.None r) (gone (or_real u.real_id i) ∙ sym (gone u.real_id))
+plain_deleted i u (inl e) = ap (λ (r : OptId). with_state u (status false (pos 0)) None r) (gone (or_real u.real_id i) ∙ sym (gone u.real_id))
   where
-    gone : (r : OptId) → cond (eqb u.id.peer UNKNOWN_PEER) Nothing r ≡ Nothing
-    gone r = ap (λ (p : ℕ). cond (eqb p UNKNOWN_PEER) Nothing r) e
-plain_deleted i u (inr t) = ap (λ (r : OptId). with_state u (status false (pos 0)) Opt.None (cond (eqb u.id.peer UNKNOWN_PEER) Nothing r))
+    gone : (r : OptId) → cond (eqb u.id.peer UNKNOWN_PEER) None r ≡ None
+    gone r = ap (λ (p : ℕ). cond (eqb p UNKNOWN_PEER) None r) e
+plain_deleted i u (inr t) = ap (λ (r : OptId). with_state u (status false (pos 0)) None (cond (eqb u.id.peer UNKNOWN_PEER) None r))
     (ap (λ (r : OptId). or_real r i) t.1 ∙ sym t.1)
 
 plain_first : (l : List FugueSpan) (n : ℕ) (i : Id) → ((u : FugueSpan) → Mem u l → Real u) → map plain (delete_first l n i) ≡ map plain l

@@ -9,10 +9,10 @@ use lib.ListN.{length}
 use lib.IntN.{pos}
 use native.Mathlib.Omega.{arith}
 use borrow.Author.Tests.{le-leb, lt-ltb, ne_eqb}
+use Rattle.std.specs.Prelude.{None, Some}
 use Rattle.span.specs.declared.chunk.RichtextChunk.{RichtextChunk}
 use Rattle.span.specs.declared.ids.Id.{Id}
 use Rattle.span.specs.Maybe.{OptId}
-use Rattle.std.specs.Prelude.{None as Nothing, Some as At}
 use Rattle.span.specs.declared.span.FugueSpan.{FugueSpan}
 use Rattle.span.specs.Chunk.{UNKNOWN, chunk, formed, len_of, shape_of}
 use Rattle.span.specs.Ids.{UNKNOWN_PEER, id, inc_id, room, room_opt}
@@ -83,11 +83,11 @@ module _ (m : ℕ) where
   no_old : (w : FugueSpan) → Mem w [] → Older w.id (id UNKNOWN_PEER (pos 0))
   no_old w k = absurd (Memᴰ.not-nil k)
 
-  in_none : In Nothing []
+  in_none : In None []
   in_none = inl refl
 
   key0 : OptId → Key
-  key0 = key_of no_keys [] good_nil (id UNKNOWN_PEER (pos 0)) m Nothing Nothing in_none no_old
+  key0 = key_of no_keys [] good_nil (id UNKNOWN_PEER (pos 0)) m None None in_none no_old
 
   -- it is what an insert into nothing leaves
   as_insert : insert_units 0 (placeholder (suc m)) [] ≡ units_of (placeholder (suc m))
@@ -96,9 +96,9 @@ module _ (m : ℕ) where
 
   good0 : Good key0 (units_of (placeholder (suc m)))
   unfolding key0 placeholder new_span len_of shape_of origin_left origin_right front behind last_id first_past
-  good0 = subst (Good key0) as_insert (insert_good key0 [] (good_new no_keys [] good_nil i0 m Nothing Nothing in_none no_old) 0 s
-      (λ (v : FugueSpan) (k : Mem v []). absurd (Memᴰ.not-nil k)) no_old (hung_new no_keys [] good_nil i0 m Nothing Nothing in_none no_old)
-      (λ (j : ℕ) (b : suc j < suc m). hungs_new no_keys [] good_nil i0 m Nothing Nothing in_none no_old j b) (omega arith))
+  good0 = subst (Good key0) as_insert (insert_good key0 [] (good_new no_keys [] good_nil i0 m None None in_none no_old) 0 s
+      (λ (v : FugueSpan) (k : Mem v []). absurd (Memᴰ.not-nil k)) no_old (hung_new no_keys [] good_nil i0 m None None in_none no_old)
+      (λ (j : ℕ) (b : suc j < suc m). hungs_new no_keys [] good_nil i0 m None None in_none no_old j b) (omega arith))
 
   unit0 : (w : FugueSpan) → Mem w (units_of (placeholder (suc m))) → (k : ℕ) × (k < suc m) × (w ≡ Units.unit_at (placeholder (suc m)) k) × (w.id ≡ inc_id (id UNKNOWN_PEER (pos 0)) k)
   unfolding placeholder new_span len_of shape_of shift
@@ -115,10 +115,10 @@ module _ (m : ℕ) where
   deep0 w k =
       let t : (i : ℕ) × (i < suc m) × (w ≡ Units.unit_at (placeholder (suc m)) i) × (w.id ≡ inc_id (id UNKNOWN_PEER (pos 0)) i) = unit0 w k in
       let b : t.0 < suc m = t.1 in
-      let f : Key = first_key no_keys i0 Nothing (parent_right [] Nothing Nothing) in
-      let q : length (key_of no_keys [] good_nil i0 m Nothing Nothing in_none no_old (ref w)) ≡ length (span_key i0 (first_key no_keys i0 Nothing (parent_right [] Nothing Nothing)) t.0)
-      = ap length (ap (λ (z : Id). key_of no_keys [] good_nil i0 m Nothing Nothing in_none no_old (At z)) t.3 ∙ key_of_new no_keys [] good_nil i0 m Nothing Nothing in_none no_old t.0 t.1) in
-      omega (arith, q, span_key-length i0 (first_key no_keys i0 Nothing (parent_right [] Nothing Nothing)) t.0, first_key-length no_keys i0 Nothing (parent_right [] Nothing Nothing) 0 (omega arith) (omega arith), length0)
+      let f : Key = first_key no_keys i0 None (parent_right [] None None) in
+      let q : length (key_of no_keys [] good_nil i0 m None None in_none no_old (ref w)) ≡ length (span_key i0 (first_key no_keys i0 None (parent_right [] None None)) t.0)
+      = ap length (ap (λ (z : Id). key_of no_keys [] good_nil i0 m None None in_none no_old (Some z)) t.3 ∙ key_of_new no_keys [] good_nil i0 m None None in_none no_old t.0 t.1) in
+      omega (arith, q, span_key-length i0 (first_key no_keys i0 None (parent_right [] None None)) t.0, first_key-length no_keys i0 None (parent_right [] None None) 0 (omega arith) (omega arith), length0)
 
   list0 : (start (suc m)).list ≡ units_of (placeholder (suc m))
   unfolding start

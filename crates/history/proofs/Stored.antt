@@ -9,9 +9,9 @@ use native.Mathlib.Omega.{arith}
 use lib.Dec.{eqb, leb, ltb}
 use lib.ListN.{length, length-append, length-map}
 use borrow.Author.Tests.{ne_eqb, le-leb, lt-ltb, leb-true}
+use Rattle.std.specs.Prelude.{Some}
 use Rattle.span.specs.declared.ids.Id.{Id}
 use Rattle.span.specs.Maybe.{OptId}
-use Rattle.std.specs.Prelude.{Some as At}
 use Rattle.span.specs.declared.span.FugueSpan.{FugueSpan}
 use Rattle.span.specs.Chunk.{len_of}
 use Rattle.span.specs.Ids.{UNKNOWN_PEER, room_opt, inc_id}
@@ -98,18 +98,18 @@ at_length v h = length-map h.list (Co.unit_at v h.held)
 
 -- ---- units
 
-act_units : (a : Act) (e : Edit) (l : List FugueSpan) → e.act ≡ a → Known e → act_formed a ≡ true → (room_opt (At e.id) (size e) && act_ids a) ≡ true → Units1 l → Units1 (act_list a e l)
+act_units : (a : Act) (e : Edit) (l : List FugueSpan) → e.act ≡ a → Known e → act_formed a ≡ true → (room_opt (Some e.id) (size e) && act_ids a) ≡ true → Units1 l → Units1 (act_list a e l)
 unfolding act_list
 act_units (Insert lam c) e l d k f b u =
-    let t = (and-eq-true_iff (room_opt (At e.id) (size e)) (leb (lam + len_of c) 4294967295)).0 b in
+    let t = (and-eq-true_iff (room_opt (Some e.id) (size e)) (leb (lam + len_of c) 4294967295)).0 b in
     let s : size e ≡ len_of c = ap size_of d ∙ (unfold size_of in refl) in
-    units_insert e.at (new_span e.id lam c) l (span_new e.id lam c (origin_left e.at l) (origin_right e.at l) k f (subst (λ (z : ℕ). room_opt (At e.id) z ≡ true) s t.0) (leb-true (lam + len_of c) 4294967295 t.1)) u
-act_units (Delete m reversed target) e l d k f b u = units_delete e.at m target l ((and-eq-true_iff (room_opt (At e.id) (size e)) (room_opt (At target) m)).0 b).1 u
+    units_insert e.at (new_span e.id lam c) l (span_new e.id lam c (origin_left e.at l) (origin_right e.at l) k f (subst (λ (z : ℕ). room_opt (Some e.id) z ≡ true) s t.0) (leb-true (lam + len_of c) 4294967295 t.1)) u
+act_units (Delete m reversed target) e l d k f b u = units_delete e.at m target l ((and-eq-true_iff (room_opt (Some e.id) (size e)) (room_opt (Some target) m)).0 b).1 u
 
 -- ---- the history after an arrival
 
 module _ (n : ℕ) (done A : List Edit) (h : History) (st : Store n done A h) (e : Edit) (a : Arriving n done h e)
-    (formed_e : act_formed e.act ≡ true) (ids_e : (room_opt (At e.id) (size e) && act_ids e.act) ≡ true) (code-e : edit_code h.held e ≡ 0) where
+    (formed_e : act_formed e.act ≡ true) (ids_e : (room_opt (Some e.id) (size e) && act_ids e.act) ≡ true) (code-e : edit_code h.held e ≡ 0) where
   pub store_next : Store n (e ∷ done) (A ++ (e ∷ [])) (arrive h e)
   unfolding arrive hold
   store_next = record {

@@ -9,9 +9,9 @@ use native.Mathlib.Omega.{arith}
 use lib.Dec.{eqb}
 use lib.ListN.{length, length-map}
 use borrow.Author.Tests.{eq-eqb, leb-true}
+use Rattle.std.specs.Prelude.{Some}
 use Rattle.span.specs.declared.ids.Id.{Id}
 use Rattle.span.specs.Maybe.{OptId}
-use Rattle.std.specs.Prelude.{Some as At}
 use Rattle.span.specs.declared.span.FugueSpan.{FugueSpan}
 use Rattle.span.specs.Status.{activated}
 use Rattle.units.specs.Lists.{some, keep_if}
@@ -147,7 +147,7 @@ module _ (n : ℕ) (done : List Edit) (h : History) (key : OptId → Key) (r : R
         meet : (a : FugueSpan) → Mem a h.list → (w : FugueSpan) → view v h.held a ≡ w → (t : FugueSpan) × Mem t (taken at m (sees v h)) × (id_of t ≡ a.id) → Mem w (taken at m (sees v h))
         meet a ma w e t =
             let b : (x : FugueSpan) × Mem x h.list × (view v h.held x ≡ t.0) = from t.0 t.1 in
-            let q : b.0 ≡ a = sorted_uniq key h.list r.good.sorted b.0 a b.1 ma (ap At ((view_same v h.held b.0).id ∙ (ap id_of b.2 ∙ t.2))) in
+            let q : b.0 ≡ a = sorted_uniq key h.list r.good.sorted b.0 a b.1 ma (ap Some ((view_same v h.held b.0).id ∙ (ap id_of b.2 ∙ t.2))) in
             Memᴰ.cast (sym e ∙ (ap (view v h.held) (sym q) ∙ b.2)) t.1
 
         to : (w : FugueSpan) → (a : FugueSpan) × Mem a (keep_if test h.list) × (view v h.held a ≡ w) → Mem w (taken at m (sees v h))

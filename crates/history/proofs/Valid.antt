@@ -9,10 +9,10 @@ use native.Mathlib.Omega.{arith}
 use lib.Dec.{eqb}
 use lib.ListN.{length, length-append, length-map}
 use borrow.Author.Tests.{eq-eqb, le-leb, ne_eqb}
+use Rattle.std.specs.Prelude.{None}
 use Rattle.span.specs.declared.chunk.RichtextChunk.{RichtextChunk}
 use Rattle.span.specs.declared.ids.Id.{Id}
 use Rattle.span.specs.Maybe.{OptId}
-use Rattle.std.specs.Prelude.{None as Nothing}
 use Rattle.span.specs.declared.span.FugueSpan.{FugueSpan}
 use Rattle.span.specs.Chunk.{UNKNOWN, chunk, part_chunk}
 use Rattle.span.specs.Ids.{UNKNOWN_PEER, inc_id, same_id, same_opt}
@@ -131,7 +131,7 @@ same_unit_lem e lam c l k u q =
       where
         go : eqb u.id.peer UNKNOWN_PEER ≡ false → real_plain u ≡ real_plain (Units.unit_at (span_of e lam c l) k) → u.real_id ≡ (Units.unit_at (new_span e.id lam c) k).real_id
         go b r = unfold real_plain shift with_origins new_span in
-            (sym (ap (λ (z : Bool). cond z Nothing u.real_id) b) ∙ (r ∙ ap (λ (z : Bool). cond z Nothing (Units.unit_at (new_span e.id lam c) k).real_id) (ap (λ (i : Id). eqb i.peer UNKNOWN_PEER) (sym ei) ∙ b)))
+            (sym (ap (λ (z : Bool). cond z None u.real_id) b) ∙ (r ∙ ap (λ (z : Bool). cond z None (Units.unit_at (new_span e.id lam c) k).real_id) (ap (λ (i : Id). eqb i.peer UNKNOWN_PEER) (sym ei) ∙ b)))
 
     real : Test (eqb u.id.peer UNKNOWN_PEER) (u.id.peer ≡ UNKNOWN_PEER) → (eqb u.id.peer UNKNOWN_PEER || same_opt u.real_id (Units.unit_at (new_span e.id lam c) k).real_id) ≡ true
     real (pass b d) = ap (λ (z : Bool). z || same_opt u.real_id (Units.unit_at (new_span e.id lam c) k).real_id) b

@@ -10,10 +10,10 @@ use lib.Dec.{eqb, leb}
 use lib.IntN.{ℤ, pos, ◌+ℤ◌}
 use lib.ListN.{length}
 use borrow.Author.Tests.{eq-eqb, le-leb, ne_eqb}
+use Rattle.std.specs.Prelude.{None, Some}
 use Rattle.span.specs.declared.chunk.RichtextChunk.{RichtextChunk}
 use Rattle.span.specs.declared.ids.Id.{Id}
 use Rattle.span.specs.Maybe.{OptId}
-use Rattle.std.specs.Prelude.{None as Nothing, Some as At}
 use Rattle.span.specs.declared.status.Status.{Status}
 use Rattle.span.specs.Maybe.{OptStatus}
 use Rattle.span.specs.declared.span.FugueSpan.{FugueSpan}
@@ -92,11 +92,11 @@ units_between_lem a b h f u m = go (Memᴰ.of_map (Co.unit_between a b h.held) h
 
 -- ---- inserts
 
-pub span_new : (i : Id) (lam : ℕ) (c : RichtextChunk) (x o : OptId) → ¬ (i.peer ≡ UNKNOWN_PEER) → formed c ≡ true → room_opt (At i) (len_of c) ≡ true → lam + len_of c ≤ 4294967295
+pub span_new : (i : Id) (lam : ℕ) (c : RichtextChunk) (x o : OptId) → ¬ (i.peer ≡ UNKNOWN_PEER) → formed c ≡ true → room_opt (Some i) (len_of c) ≡ true → lam + len_of c ≤ 4294967295
     → span_code (with_origins (new_span i lam c) x o) ≡ 0
 unfolding with_origins new_span real_new room_opt
 span_new i lam c x o k f r b = span_of_lem (with_origins (new_span i lam c) x o) (len_of c) refl f ((and-eq-true_iff (not (eqb i.peer UNKNOWN_PEER)) (room_of i (len_of c))).0 r).1 b
-    (ap (λ (z : Bool). room_opt (cond z Nothing (At i)) (len_of c)) (ne_eqb i.peer UNKNOWN_PEER k) ∙ r)
+    (ap (λ (z : Bool). room_opt (cond z None (Some i)) (len_of c)) (ne_eqb i.peer UNKNOWN_PEER k) ∙ r)
 
 pub units_insert : (at : ℕ) (s : FugueSpan) (l : List FugueSpan) → span_code (with_origins s (origin_left at l) (origin_right at l)) ≡ 0 → Units1 l → Units1 (insert_units at s l)
 units_insert at s l ok f u m = go (splice_from (insert_splice at s l) u m)
@@ -107,7 +107,7 @@ units_insert at s l ok f u m = go (splice_from (insert_splice at s l) u m)
 
 -- ---- deletes
 
-room_next : (i : Id) (n : ℕ) → room_opt (At i) (suc n) ≡ true → room_opt (At (inc_id i 1)) n ≡ true
+room_next : (i : Id) (n : ℕ) → room_opt (Some i) (suc n) ≡ true → room_opt (Some (inc_id i 1)) n ≡ true
 unfolding room_opt inc_id
 room_next i n e =
     let t = (and-eq-true_iff (not (eqb i.peer UNKNOWN_PEER)) (room_of i (suc n))).0 e in
@@ -122,15 +122,15 @@ unit_real u s d r k e =
     let o : SpanOk u = span_ok u k.0 in
     (span_of_lem (with_state u s d r) 1 k.1 o.form (subst (λ (z : ℕ). room_of u.id z ≡ true) k.1 o.own) (subst (λ (z : ℕ). u.lamport + z ≤ 4294967295) k.1 o.lam) e, k.1)
 
-unit_delete : (i : Id) (u : FugueSpan) → Unit1 u → room_opt (At i) 1 ≡ true → Unit1 (delete_unit i u)
+unit_delete : (i : Id) (u : FugueSpan) → Unit1 u → room_opt (Some i) 1 ≡ true → Unit1 (delete_unit i u)
 unfolding delete_unit
 unit_delete i u k e = unit_real u (status u.status.future (u.status.delete_times +ℤ pos 1)) u.diff_status (or_real u.real_id i) k (go u.real_id (subst (λ (z : ℕ). room_opt u.real_id z ≡ true) k.1 (span_ok u k.0).real))
   where
     go : (r : OptId) → room_opt r 1 ≡ true → room_opt (or_real r i) 1 ≡ true
-    go Nothing h = e
-    go (At j) h = h
+    go None h = e
+    go (Some j) h = h
 
-units_first : (l : List FugueSpan) (n : ℕ) (i : Id) → room_opt (At i) n ≡ true → Units1 l → Units1 (delete_first l n i)
+units_first : (l : List FugueSpan) (n : ℕ) (i : Id) → room_opt (Some i) n ≡ true → Units1 l → Units1 (delete_first l n i)
 unfolding delete_first
 units_first [] n i e f u m = absurd (Memᴰ.not-nil m)
 units_first (v ∷ l) zero i e f u m = f u m
@@ -145,10 +145,10 @@ units_first (v ∷ l) (suc n) i e f u m = go (activated v.status) m
     two w r k ih (inr j) = ih j
 
     go : (b : Bool) → Mem u (cond b (delete_unit i v ∷ delete_first l n (inc_id i 1)) (v ∷ delete_first l (suc n) i)) → (Mem u (delete_first l n (inc_id i 1)) → Unit1 u) → (Mem u (delete_first l (suc n) i) → Unit1 u) → Unit1 u
-    go true k yes-ih no-ih = two (delete_unit i v) (delete_first l n (inc_id i 1)) (unit_delete i v fv (room_opt_less (At i) 1 (suc n) (omega arith) e)) yes-ih (Memᴰ.cases_cons k)
+    go true k yes-ih no-ih = two (delete_unit i v) (delete_first l n (inc_id i 1)) (unit_delete i v fv (room_opt_less (Some i) 1 (suc n) (omega arith) e)) yes-ih (Memᴰ.cases_cons k)
     go false k yes-ih no-ih = two v (delete_first l (suc n) i) fv no-ih (Memᴰ.cases_cons k)
 
-pub units_delete : (at n : ℕ) (i : Id) (l : List FugueSpan) → room_opt (At i) n ≡ true → Units1 l → Units1 (delete_units at n i l)
+pub units_delete : (at n : ℕ) (i : Id) (l : List FugueSpan) → room_opt (Some i) n ≡ true → Units1 l → Units1 (delete_units at n i l)
 unfolding delete_units
 units_delete at n i l e f u m = go (Memᴰ.append_cases (front l at) m)
   where
@@ -187,19 +187,19 @@ joined_rows_lem (s ∷ l) j = ap₂ (λ (a b : Bool). cond a (cond b false (join
 distinct_of : (key : OptId → Key) (us : List FugueSpan) → Sorted key us → distinct_ids us ≡ true
 unfolding distinct_ids
 distinct_of key [] s = refl
-distinct_of key (u ∷ us) s = go (mem_id_test (At u.id) us) (distinct_of key us s.1)
+distinct_of key (u ∷ us) s = go (mem_id_test (Some u.id) us) (distinct_of key us s.1)
   where
-    go : Test (mem_id (At u.id) us) ((w : FugueSpan) × Mem w us × (ref w ≡ At u.id)) → distinct_ids us ≡ true → (not (mem_id (At u.id) us) && distinct_ids us) ≡ true
+    go : Test (mem_id (Some u.id) us) ((w : FugueSpan) × Mem w us × (ref w ≡ Some u.id)) → distinct_ids us ≡ true → (not (mem_id (Some u.id) us) && distinct_ids us) ≡ true
     go (pass e t) ih = absurd (Lt-irrefl (key (ref u)) (subst (λ (z : OptId). Lt (key (ref u)) (key z)) t.2 (s.0 t.0 t.1)))
     go (fail e t) ih = ap (λ (b : Bool). not b && distinct_ids us) e ∙ ih
 
 named_of : (r : OptId) (us : List FugueSpan) → In r us → named r us ≡ true
 unfolding named
-named_of Nothing us i = refl
-named_of (At j) us (inl e) = absurd (none≢at (sym e))
-named_of (At j) us (inr t) = go (mem_id_test (At j) us)
+named_of None us i = refl
+named_of (Some j) us (inl e) = absurd (none≢at (sym e))
+named_of (Some j) us (inr t) = go (mem_id_test (Some j) us)
   where
-    go : Test (mem_id (At j) us) ((w : FugueSpan) × Mem w us × (ref w ≡ At j)) → mem_id (At j) us ≡ true
+    go : Test (mem_id (Some j) us) ((w : FugueSpan) × Mem w us × (ref w ≡ Some j)) → mem_id (Some j) us ≡ true
     go (pass e k) = e
     go (fail e k) = absurd (k t)
 

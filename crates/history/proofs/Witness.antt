@@ -9,7 +9,7 @@ use mathlib.Core.List.{List, [], ◌∷◌}
 use native.Mathlib.Omega.{arith}
 use lib.Dec.{eqb}
 use lib.IntN.{pos}
-use Rattle.std.specs.Prelude.{Some as At}
+use Rattle.std.specs.Prelude.{Some}
 use Rattle.span.specs.Chunk.{chunk}
 use Rattle.span.specs.Ids.{id, room_opt}
 use Rattle.fugue.proofs.Tests.{Test, pass, fail, eqb_test}
@@ -127,7 +127,7 @@ well_formed : WellFormedSet set
 unfolding history_open
 well_formed = record {
   formed = each (λ (e : Edit). act_formed e.act ≡ true) refl refl refl;
-  ids = each (λ (e : Edit). (room_opt (At e.id) (size e) && act_ids e.act) ≡ true) refl refl refl;
+  ids = each (λ (e : Edit). (room_opt (Some e.id) (size e) && act_ids e.act) ≡ true) refl refl refl;
   run_on = each (λ (e : Edit). (i : ℕ) → i < first_of e → IdOf set e.id.peer i) (none_before one) (none_before two) (none_before three);
   once = λ (e f : Edit) (me : InSet e set) (mf : InSet f set) (p i : ℕ) (a : Uses e p i) (b : Uses f p i). alone e f (which e me) (which f mf) (a.peer ∙ sym b.peer);
   no_twice = distinct;
