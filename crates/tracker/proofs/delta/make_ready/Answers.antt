@@ -4,15 +4,15 @@ use Rattle.span.specs.Refusal.{code_of}
 use Rattle.std.proofs.lemmas.Result.{err_from_is_err_and}
 use Rattle.tracker.proofs.Checking.{well_head, well_edits}
 use Rattle.tracker.proofs.Readying.{ready_from, ready_to, ready_asks, ready_versions, ready_sees, ready_sees_one, ready_rooms, ready_done}
-use Rattle.tracker.proofs.delta.make_ready.Goals.{then-ka-gt-PEERS, else-ka-gt-PEERS}
+use Rattle.tracker.proofs.delta.make_ready.Goals.{then-ka-gt-PEERS-via-then-ka-gt-PEERS, then-ka-gt-PEERS-via-else-ka-gt-PEERS+then-kb-gt-PEERS}
 use Rattle.tracker.proofs.delta.make_ready.Goals as goal
 
 pub returns-then-ka-gt-PEERS : goal.returns-then-ka-gt-PEERS
 returns-then-ka-gt-PEERS c =
     let x = c.args in
-    elim c.if-ka-gt-PEERS.branch [
-      | then-ka-gt-PEERS w ↦ ready_from x.s.now x.t.now x.e.now c.requires.0 x.a.now x.b.now x.ka x.kb x.most c.requires.1 c.requires.2 w.if-ka-gt-PEERS.true
-      | else-ka-gt-PEERS w ↦ ready_to x.s.now x.t.now x.e.now c.requires.0 x.a.now x.b.now x.ka x.kb x.most c.requires.1 c.requires.2 w.if-kb-gt-PEERS.true
+    elim c.then-ka-gt-PEERS.branch [
+      | then-ka-gt-PEERS-via-then-ka-gt-PEERS w ↦ ready_from x.s.now x.t.now x.e.now c.requires.0 x.a.now x.b.now x.ka x.kb x.most c.requires.1 c.requires.2 w.if-ka-gt-PEERS.true
+      | then-ka-gt-PEERS-via-else-ka-gt-PEERS+then-kb-gt-PEERS w ↦ ready_to x.s.now x.t.now x.e.now c.requires.0 x.a.now x.b.now x.ka x.kb x.most c.requires.1 c.requires.2 w.if-kb-gt-PEERS.true
     ]
 
 pub edit_count-h-requires : goal.edit_count-h-requires
