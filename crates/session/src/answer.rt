@@ -9,7 +9,7 @@ use crate::lent::Lent;
 use crate::state::{Open, Session};
 use crate::{calls, history_calls, look, reply};
 use script::call::{Call, HistoryCall, Look, RopeCall, parse};
-use span::refusal::Refusal;
+use span::refusal::{Refusal, code_of};
 use text::parts::{before, trim};
 
 // The bytes of a header and so many rows.
@@ -30,7 +30,7 @@ fn opened(
 ) -> Session
     ensures { OpenedIn s what (code_of outcome) text.old result text.new }
 {
-    let s = s.said(reply::done(output, text, s.at, outcome));
+    let s = s.said(reply::done(output, text, s.at, code_of(outcome)));
     match outcome {
         Ok(()) => s.opened(what),
         Err(_) => s,

@@ -14,7 +14,7 @@ ghost use Rattle.session.specs.Applied.{on_list_items, on_list_code, AppliesIn, 
 use crate::console::Output;
 use crate::entries::most;
 use crate::front::{front, front_items};
-use crate::versions::Columns;
+use crate::versions::VersionColumns;
 use crate::{entries, reply};
 use apply::item::get_item;
 use script::field::word;
@@ -37,8 +37,8 @@ fn delta_into(
 ) -> Result<usize, Refusal>
     ensures { Deltas s.old t.now e.now (version_of (word_peers (word_of line.now 1)) (word_counts (word_of line.now 1))) (version_of (word_peers (word_of line.now 2)) (word_counts (word_of line.now 2))) (least (length kind.old) (length a.old) (length b.old) (length peer.old) (length counter.old) (length lamport.old)) result s.new kind.old a.old b.old peer.old counter.old lamport.old kind.new a.new b.new peer.new counter.new lamport.new }
 {
-    let from = Columns::new(word(line, 1));
-    let to = Columns::new(word(line, 2));
+    let from = VersionColumns::new(word(line, 1));
+    let to = VersionColumns::new(word(line, 2));
     tracker::delta::delta(
         s,
         t,
@@ -76,7 +76,7 @@ fn print_delta(
 {
     match delta_into(line, s, t, e, kind, a, b, peer, counter, lamport) {
         Ok(n) => entries::entries(kind, a, b, peer, counter, lamport, n, output, text, at),
-        Err(refusal) => reply::refused(output, text, at, refusal),
+        Err(refusal) => reply::refused(output, text, at, refusal.number()),
     }
 }
 
@@ -180,7 +180,7 @@ fn listed(
 {
     match r {
         Ok(n) => items(out, n, output, text, at),
-        Err(refusal) => reply::refused(output, text, at, refusal),
+        Err(refusal) => reply::refused(output, text, at, refusal.number()),
     }
 }
 

@@ -14,19 +14,20 @@ ghost use Rattle.session.specs.Calls.{EditSaid, DeleteSaid};
 use crate::console::Output;
 use crate::{entries, reply};
 use script::call::{Delete, Insert, RopeCall, Update};
+use span::refusal::code_of;
 
 fn insert(x: Insert, s: &mut [u8], output: &mut Output, text: &mut [u8], at: usize) -> usize
     ensures { EditSaid (insert_number s.old x.pos (new_span x.id x.lamport x.content)) (insert_list s.old x.pos (new_span x.id x.lamport x.content)) s.old s.new at text.old result text.new }
 {
     let outcome = rope::edit::insert(s, x.pos, x.id, x.lamport, x.content);
-    reply::done(output, text, at, outcome)
+    reply::done(output, text, at, code_of(outcome))
 }
 
 fn clear(s: &mut [u8], output: &mut Output, text: &mut [u8], at: usize) -> usize
     ensures { EditSaid (state_code s.old) (join (clear_units (expand (spans_of s.old)))) s.old s.new at text.old result text.new }
 {
     let outcome = rope::edit::clear_diff_status(s);
-    reply::done(output, text, at, outcome)
+    reply::done(output, text, at, code_of(outcome))
 }
 
 // piece LEN SPAN, for row i of those that a delete put out
@@ -64,7 +65,7 @@ fn delete(
 {
     match rope::delete::delete(s, out, x.pos, x.len, x.start, x.reversed) {
         Ok(n) => pieces(out, n, output, text, at),
-        Err(refusal) => reply::refused(output, text, at, refusal),
+        Err(refusal) => reply::refused(output, text, at, refusal.number()),
     }
 }
 
@@ -80,7 +81,7 @@ fn update(x: Update, s: &mut [u8], output: &mut Output, text: &mut [u8], at: usi
         x.change,
         x.on_diff,
     );
-    reply::done(output, text, at, outcome)
+    reply::done(output, text, at, code_of(outcome))
 }
 
 pub fn call(

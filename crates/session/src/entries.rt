@@ -126,7 +126,7 @@ fn diff_into(
 {
     match rope::diff::get_diff(s, kind, a, b, peer, counter, lamport) {
         Ok(n) => entries(kind, a, b, peer, counter, lamport, n, output, text, at),
-        Err(refusal) => reply::refused(output, text, at, refusal),
+        Err(refusal) => reply::refused(output, text, at, refusal.number()),
     }
 }
 

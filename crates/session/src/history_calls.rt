@@ -4,10 +4,11 @@ ghost use Rattle.session.specs.History.{Arrives, Goes};
 ghost use Rattle.session.specs.HistoryCalls.{insert_head, delete_head, HistorySays};
 
 use crate::console::Output;
-use crate::versions::Columns;
+use crate::versions::VersionColumns;
 use crate::{applied, reply};
 use script::call::{Arriving, HistoryCall, Insert};
 use script::field::word;
+use span::refusal::code_of;
 use tracker::row::{Does, Head};
 
 fn inserting(x: Insert) -> Head
@@ -44,9 +45,9 @@ fn arrive(
 ) -> usize
     ensures { Arrives x w.now s.old t.old e.old at text.old result s.new t.new e.new text.new }
 {
-    let version = Columns::new(w);
+    let version = VersionColumns::new(w);
     let outcome = tracker::arrive::arrive(s, t, e, x, version.peers(), version.counts());
-    reply::done(output, text, at, outcome)
+    reply::done(output, text, at, code_of(outcome))
 }
 
 // The list goes to the version in w.
@@ -61,9 +62,9 @@ fn checkout(
 ) -> usize
     ensures { Goes w.now s.old t.now e.now at text.old result s.new text.new }
 {
-    let version = Columns::new(w);
+    let version = VersionColumns::new(w);
     let outcome = tracker::checkout::checkout(s, t, e, version.peers(), version.counts());
-    reply::done(output, text, at, outcome)
+    reply::done(output, text, at, code_of(outcome))
 }
 
 pub fn call(

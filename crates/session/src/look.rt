@@ -47,7 +47,7 @@ fn len(a: Result<usize, Refusal>, output: &mut Output, text: &mut [u8], at: usiz
 {
     match a {
         Ok(n) => reply::counted(output, text, at, b"len", n as u64),
-        Err(refusal) => reply::refused(output, text, at, refusal),
+        Err(refusal) => reply::refused(output, text, at, refusal.number()),
     }
 }
 
@@ -69,7 +69,7 @@ fn at_pos(
             let at = reply::make_room(output, text, at);
             put(text, at, b"at nothing\n")
         }
-        Err(refusal) => reply::refused(output, text, at, refusal),
+        Err(refusal) => reply::refused(output, text, at, refusal.number()),
     }
 }
 
@@ -95,13 +95,20 @@ impl Kind {
     }
 }
 
-// Unit k of a span: its line, or none where it is no item.
+// One unit of a span: its line, or none where it is no item.
 #[tactic(auto, unfolding(crate::specs::Say::said_at, crate::specs::Say::said_text, crate::specs::Lines::unit_lines, crate::specs::Lines::one_lines))]
-fn unit(kind: Kind, x: FugueSpan, k: u32, output: &mut Output, text: &mut [u8], at: usize) -> usize
-    requires { k + 1 < 2 ^ 32 }
-    ensures { Says at (unit_lines kind (slice_span_of x k (k + 1))) text.old result text.new }
+fn unit(
+    kind: Kind,
+    x: FugueSpan,
+    k: u32,
+    next: u32,
+    output: &mut Output,
+    text: &mut [u8],
+    at: usize,
+) -> usize
+    ensures { Says at (unit_lines kind (slice_span_of x k next)) text.old result text.new }
 {
-    let Ok(unit) = x.slice(k, k + 1) else {
+    let Ok(unit) = x.slice(k, next) else {
         return at;
     };
     match kind {
@@ -123,7 +130,7 @@ fn units(
 {
     let mut at = start;
     for k in 0..n {
-        at = unit(kind, x, k, output, text, at);
+        at = unit(kind, x, k, k + 1, output, text, at);
     }
     at
 }
@@ -200,7 +207,7 @@ fn list(fine: bool, kind: Kind, s: &[u8], output: &mut Output, text: &mut [u8], 
         let at = reply::counted(output, text, at, kind.name(), all_lines(kind, s, n));
         rows(kind, s, n, output, text, at)
     } else {
-        reply::refused(output, text, at, Refusal::Store)
+        reply::refused(output, text, at, Refusal::Store.number())
     }
 }
 

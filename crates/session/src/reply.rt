@@ -59,20 +59,21 @@ pub fn error(output: &mut Output, text: &mut [u8], at: usize) -> usize
     put(text, at, b"error\n")
 }
 
-pub fn refused(output: &mut Output, text: &mut [u8], at: usize, refusal: Refusal) -> usize
-    ensures { Says at (refused_lines (number_of refusal)) text.old result text.new }
+pub fn refused(output: &mut Output, text: &mut [u8], at: usize, code: u8) -> usize
+    ensures { Says at (refused_lines code) text.old result text.new }
 {
-    counted(output, text, at, b"no", u64::from(refusal.number()))
+    counted(output, text, at, b"no", u64::from(code))
 }
 
 // ok, or the refusal
-#[tactic(auto, using(span::proofs::RefusalLaws::number_not_zero), unfolding(crate::specs::Lines::done_lines))]
-pub fn done(output: &mut Output, text: &mut [u8], at: usize, outcome: Result<(), Refusal>) -> usize
-    ensures { Says at (done_lines (code_of outcome)) text.old result text.new }
+#[tactic(auto, unfolding(crate::specs::Lines::done_lines))]
+pub fn done(output: &mut Output, text: &mut [u8], at: usize, code: u8) -> usize
+    ensures { Says at (done_lines code) text.old result text.new }
 {
-    match outcome {
-        Ok(()) => ok(output, text, at),
-        Err(refusal) => refused(output, text, at, refusal),
+    if code == 0 {
+        ok(output, text, at)
+    } else {
+        refused(output, text, at, code)
     }
 }
 

@@ -1,7 +1,7 @@
 // A version's word as columns: its peers, and its counts by their bits.
 ghost use Rattle.std.specs.Prelude.{◌≡◌, take, slice_set};
 ghost use Rattle.script.specs.Version.{pair_of};
-ghost use Rattle.session.specs.Columns.{peer_put, count_put, peers_put, counts_put, word_peers, word_counts};
+ghost use Rattle.session.specs.Columns.{peer_put, count_put, peers_put, counts_put, pairs_taken, peers_in, counts_in, word_peers, word_counts};
 
 use crate::front::front;
 use script::version::{pair, pairs};
@@ -11,7 +11,7 @@ const MOST: usize = 32;
 
 // The first `pairs` of each column are those of the word.
 #[derive(Clone, Copy, Debug, PartialEq, Eq)]
-pub struct Columns {
+pub struct VersionColumns {
     peers: [u64; MOST],
     counts: [u32; MOST],
     pairs: usize,
@@ -44,16 +44,24 @@ fn put_pairs(w: &[u8], n: usize, peers: &mut [u64], counts: &mut [u32])
     }
 }
 
-impl Columns {
+// Puts the word's pairs at the fronts of the columns, and answers how many they are.
+pub fn columns(w: &[u8], peers: &mut [u64], counts: &mut [u32]) -> usize
+    ensures { (result ≡ pairs_taken w.now) × (peers.new ≡ peers_in w.now peers.old) × (counts.new ≡ counts_in w.now counts.old) }
+{
+    let n = pairs(w).min(MOST);
+    put_pairs(w, n, peers, counts);
+    n
+}
+
+impl VersionColumns {
     // The pairs of the word.
     pub fn new(w: &[u8]) -> Self
         ensures peers { take result.pairs result.peers ≡ word_peers w.now }
         ensures counts { take result.pairs result.counts ≡ word_counts w.now }
     {
-        let pairs = pairs(w).min(MOST);
         let mut peers = [0; MOST];
         let mut counts = [0; MOST];
-        put_pairs(w, pairs, &mut peers, &mut counts);
+        let pairs = columns(w, &mut peers, &mut counts);
         Self {
             peers,
             counts,
