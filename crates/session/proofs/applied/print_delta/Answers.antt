@@ -12,4 +12,4 @@ returns-in-Ok c =
 pub returns-in-Err : goal.returns-in-Err
 returns-in-Err c =
     let d = c.delta_into.ensures in
-    is_telling _ _ _ _ _ _ _ _ d (says_as _ _ (delta_refused _ _ _ (ap diff_number (sym c.in-Err.is) ∙ d.leaves.number)) c.refused.ensures)
+    is_telling _ _ _ _ _ _ _ _ d (says_as _ _ (delta_refused _ _ _ (ap diff_number (sym c.in-Err.is) ∙ d.leaves.number)) (rw c.number.ensures at c.refused.ensures))

@@ -2,4 +2,4 @@ use Rattle.session.proofs.CallsLaws.{edit_said}
 use Rattle.session.proofs.calls.clear.Goals as goal
 
 pub returns : goal.returns
-returns c = edit_said _ _ _ _ _ _ c.clear_diff_status-outcome.ensures c.done.ensures
+returns c = edit_said _ _ _ _ _ _ c.clear_diff_status-outcome.ensures (rw c.code_of.ensures at c.done.ensures)

@@ -8,4 +8,4 @@ returns c =
     let from : SFits w32 x.from.counter = search rules in
     let to : SFits w32 x.to.counter = search rules in
     let change : SFits w16 x.change = search rules in
-    edit_said _ _ _ _ _ _ (rw (to_z-of_z from, to_z-of_z to, to_z-of_z change) at c.update-outcome.ensures) c.done.ensures
+    edit_said _ _ _ _ _ _ (rw (to_z-of_z from, to_z-of_z to, to_z-of_z change) at c.update-outcome.ensures) (rw c.code_of.ensures at c.done.ensures)

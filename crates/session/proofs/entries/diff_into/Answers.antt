@@ -9,4 +9,4 @@ returns-in-Ok c = says_as _ _ (delta_done _ _ _ _ _ _ _ _ c.get_diff.ensures _ c
 pub returns-in-Err : goal.returns-in-Err
 returns-in-Err c =
     let n = answered_err _ _ (number_of_diff _ _) (sym c.in-Err.is ∙ c.get_diff.ensures.said) in
-    says_as _ _ (delta_refused _ _ _ n.0) c.refused.ensures
+    says_as _ _ (delta_refused _ _ _ n.0) (rw c.number.ensures at c.refused.ensures)

@@ -5,4 +5,4 @@ use Rattle.session.proofs.history_calls.checkout.Goals as goal
 pub returns : goal.returns
 returns c =
     let v = c.new-version.ensures in
-    is_going c.args.w.now _ _ _ _ _ (c.peers.ensures ∙ v.peers) (c.counts.ensures ∙ v.counts) c.done.ensures c.checkout-outcome.ensures
+    is_going c.args.w.now _ _ _ _ _ (c.peers.ensures ∙ v.peers) (c.counts.ensures ∙ v.counts) (rw c.code_of.ensures at c.done.ensures) c.checkout-outcome.ensures

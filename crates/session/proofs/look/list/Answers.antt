@@ -14,4 +14,4 @@ returns-then-fine c =
 
 pub returns-else-fine : goal.returns-else-fine
 unfolding list_lines
-returns-else-fine c = rw c.if-fine.false c.refused.ensures
+returns-else-fine c = rw c.if-fine.false (rw c.number.ensures at c.refused.ensures)
