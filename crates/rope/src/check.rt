@@ -56,9 +56,7 @@ fn lens(rows: &[Row]) -> usize
     requires { length rows.now ≤ 65536 }
     ensures { result ≡ sum (map len_span (spans rows.now)) }
 {
-    rows.iter()
-        .map(|row| span_of(row).rle_len() as usize)
-        .sum()
+    rows.iter().map(|row| span_of(row).rle_len() as usize).sum()
 }
 
 // The number of units.

@@ -21,9 +21,8 @@ use span::chunk::RichtextChunk;
 use span::ids::{Id, UNKNOWN_PEER};
 use span::refusal::Refusal;
 use span::span::FugueSpan;
-use store::header;
 use store::limits::UNITS;
-use store::list;
+use store::{header, list};
 
 // Inserts a new span at a visible position.
 pub fn insert(

@@ -13,9 +13,10 @@ pub loop-row-preserved : goal.loop-row-preserved
 loop-row-preserved c =
     let l = c.loop-row in
     let r = c.args.rows.now in
-    let h = c.loop-row-test.true in
-    ((fine_here r l.row-index h _ c.span_of-row.ensures l.invariant.0).1,
-    sym (past_here r l.row-index h _ c.span_of-row.ensures l.invariant.0 true (not-false _ c.if-not-row.false)) ∙ l.invariant.1)
+    let h = c.loop-row-test.true in (
+      (fine_here r l.row-index h _ c.span_of-row.ensures l.invariant.0).1,
+      sym (past_here r l.row-index h _ c.span_of-row.ensures l.invariant.0 true (not-false _ c.if-not-row.false)) ∙ l.invariant.1,
+    )
 
 pub returns : goal.returns
 returns c =
