@@ -48,7 +48,8 @@ fn visible_rows(s: &[u8], n: usize, out: &mut [u8]) -> Result<usize, Refusal>
     requires { Stored n s.now }
     ensures { Called (shown_code (rows n s.now) out.old) (shown_items (rows n s.now)) out.old result out.new }
 {
-    let many = visible(s, n);
+    let list = store::list::rows(s, n);
+    let many = visible(list);
     if out.len() / ITEM_BYTES < many {
         return Err(Refusal::Output);
     }

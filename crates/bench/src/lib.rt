@@ -42,7 +42,7 @@ pub extern "C" fn bench_find(s: &[u8], peer: u64, counter: u16) -> usize {
         peer,
         counter: i32::from(counter),
     };
-    match rope::find::find_elem(&s[72..], n, Some(id)) {
+    match rope::find::find_elem(store::list::rows(&s[72..], n), Some(id)) {
         Some((i, _)) => i,
         None => n,
     }

@@ -5,7 +5,7 @@ use mathlib.Core.Bool.{Bool, true, false, ◌&&◌, cond, true≢false}
 use mathlib.Core.List.{List, [], ◌∷◌}
 use native.Mathlib.Omega.{arith}
 use lib.Dec.{eqb}
-use lib.ListN.{length, drop}
+use lib.ListN.{length, drop, drop_of_length-le}
 use borrow.Author.Tests.{eqb-true}
 use Rattle.span.specs.declared.span.FugueSpan.{FugueSpan}
 use Rattle.span.specs.declared.span.DiffStatus.{DiffStatus}
@@ -13,6 +13,7 @@ use Rattle.span.specs.declared.span.DiffStatus.TheVariants.{NotChanged, Created,
 use Rattle.span.specs.Status.{activated}
 use Rattle.span.specs.Span.{len_span, active_len, diff_of}
 use Rattle.span.specs.Units.{expand}
+use Rattle.store.specs.Listed.{spans}
 use Rattle.store.specs.Row.{rows, row_at}
 use Rattle.store.proofs.Laws.{length-rows}
 use Rattle.rope.specs.Maybe.{Change}
@@ -222,3 +223,16 @@ module _ (n : ℕ) (s : List ℕ) (i gap k : ℕ) (v : Going n s i gap k) where
           ahead = record { stored = v.ahead.stored; low = rw (sym (length-rows n s)) next_is.low; few = omega (arith, next_is.few, v.ahead.few) };
           is = omega (arith, z, v.is);
         }
+
+-- ---- the same of the first of some spans
+
+pub reals_first : (s : FugueSpan) (l : List FugueSpan) (t : Bool) → t ≡ insertable s → every insertable (s ∷ l) ≡ (t && every insertable l)
+unfolding every
+reals_first s l t e = ap (λ (b : Bool). b && every insertable l) (sym e)
+
+none_real : every insertable [] ≡ true
+unfolding every
+none_real = refl
+
+pub reals_end : (r : List (List ℕ)) (i : ℕ) → length r ≤ i → every insertable (spans (drop i r)) ≡ true
+reals_end r i h = ap (λ (q : List (List ℕ)). every insertable (spans q)) (drop_of_length-le r {i = i} h) ∙ none_real

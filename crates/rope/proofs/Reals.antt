@@ -2,10 +2,10 @@
 use Prim.Native.Nat.{ℕ, ◌+◌, ◌-◌, ◌*◌, ◌<◌, ◌≤◌}
 use mathlib.Core.Path.{◌≡◌, refl, sym, ap, ap₂, ◌∙◌}
 use mathlib.Core.Bool.{Bool, true, false, cond}
-use mathlib.Core.List.{List}
+use mathlib.Core.List.{List, [], ◌∷◌}
 use native.Mathlib.Omega.{arith}
 use lib.Dec.{ltb}
-use lib.ListN.{drop}
+use lib.ListN.{length, drop, drop_of_length-le}
 use borrow.Author.Tests.{lt-ltb, le-ltb}
 use Rattle.span.specs.declared.ids.Id.{Id}
 use Rattle.span.specs.Maybe.{OptId}
@@ -17,6 +17,7 @@ use Rattle.span.specs.Span.{len_span, span_code, part_span, shift, slice_span_co
 use Rattle.span.proofs.Unique.{in_range_lem}
 use Rattle.span.proofs.UnitLaws.{part_length}
 use Rattle.store.specs.Row.{rows, row_at}
+use Rattle.store.specs.Listed.{spans}
 use Rattle.units.specs.Query.{Nothing, At, real_span_at}
 use Rattle.rope.specs.Entries.{real_said}
 use Rattle.rope.specs.Spans.{Stored}
@@ -71,3 +72,31 @@ module _ (n : ℕ) (s : List ℕ) (i left : ℕ) where
     real_next k =
         real_turn h false (le-ltb left (active_len (row_at s (i * 72))) (rw (sym (e ∙ ap active_len is)) k)) ∙
         ap (λ (q : ℕ). real_span_at (drop (i + 1) (rows n s)) (left - q)) (sym (e ∙ ap active_len is))
+
+-- ---- the same of the first of some spans; len is its visible length
+
+module _ (s : FugueSpan) (l : List FugueSpan) (left : ℕ) where
+  real_first : (t : Bool) → ltb left (active_len s) ≡ t → real_span_at (s ∷ l) left ≡ cond t (At (inc_id (real_of s) left) (active_len s - left)) (real_span_at l (left - active_len s))
+  unfolding real_span_at
+  real_first t e = ap (λ (b : Bool). cond b (At (inc_id (real_of s) left) (active_len s - left)) (real_span_at l (left - active_len s))) e
+
+  module _ (len : ℕ) (e : len ≡ active_len s) where
+    pub real_past : len ≤ left → real_span_at (s ∷ l) left ≡ real_span_at l (left - len)
+    real_past k = real_first false (le-ltb left (active_len s) (rw (sym e) k)) ∙ ap (λ (q : ℕ). real_span_at l (left - q)) (sym e)
+
+    module _ (ok : span_code s ≡ 0) (k : left < len) where
+      pub real_cut : slice_span_code s left len ≡ 0
+      real_cut = let a : active_len s ≡ len_span s = active_whole s (omega arith) in in_range_lem s left len ok k (omega arith)
+
+      pub real_here : (p : FugueSpan) → p ≡ part_span s left len → (x : Id) (m : ℕ) → x ≡ real_of p → m ≡ len_span p → real_said (real_span_at (s ∷ l) left) ≡ Opt.Some (x, m)
+      real_here p ep x m ex em =
+          let id : inc_id (real_of s) left ≡ x = sym (ex ∙ (ap real_of ep ∙ real_part s left len)) in
+          let lens : active_len s - left ≡ m = sym (em ∙ (ap len_span ep ∙ (part_length s left len real_cut ∙ ap (λ (q : ℕ). q - left) e))) in
+          ap real_said (real_first true (lt-ltb left (active_len s) (rw (sym e) k))) ∙ ap₂ (λ (y : Id) (q : ℕ). Opt.Some (y, q)) id lens
+
+real_none : (left : ℕ) → real_span_at [] left ≡ Nothing
+unfolding real_span_at
+real_none left = refl
+
+pub real_end : (r : List (List ℕ)) (i left : ℕ) → length r ≤ i → real_span_at (spans (drop i r)) left ≡ Nothing
+real_end r i left h = ap (λ (q : List (List ℕ)). real_span_at (spans q) left) (drop_of_length-le r {i = i} h) ∙ real_none left

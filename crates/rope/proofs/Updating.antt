@@ -9,7 +9,7 @@ use native.Mathlib.Nat.{add-zero, zero-add}
 use lib.Dec.{ltb, leb, eqb}
 use lib.IntN.{ℤ, pos, ◌+ℤ◌}
 use lib.Signed.{le_z, lt_z}
-use lib.ListN.{length, drop, length-append}
+use lib.ListN.{length, drop, length-append, drop_of_length-le}
 use Rattle.rope.proofs.Rights.{row_drop, row_none}
 use borrow.Author.Tests.{lt-ltb, le-ltb, le-leb, lt-leb, eqb-true}
 use Rattle.span.specs.Maybe.{OptId}
@@ -23,6 +23,7 @@ use Rattle.span.proofs.SpanLaws.{span_ok}
 use Rattle.span.specs.Units.{tab, unit_at, units_of, expand, join}
 use Rattle.span.proofs.ListLaws.{tab-add}
 use Rattle.span.proofs.ForRope.{expand-append}
+use Rattle.store.specs.Listed.{spans}
 use Rattle.store.specs.Row.{rows, row_at}
 use Rattle.store.proofs.Laws.{length-rows}
 use Rattle.units.specs.declared.change.SetFuture.{SetFuture}
@@ -406,6 +407,16 @@ module _ (u : Update) (s : FugueSpan) (ok : span_code s ≡ 0) (order : u.from �
 pub fits_row : (u : Update) (s : FugueSpan) (l : List FugueSpan) → counts_fit u.peer (pos u.from) (pos u.to) u.change u.diff (expand (s ∷ l)) ≡ (counts_fit u.peer (pos u.from) (pos u.to) u.change u.diff (units_of s) && counts_fit u.peer (pos u.from) (pos u.to) u.change u.diff (expand l))
 unfolding counts_fit expand
 fits_row u s l = every_both (λ (v : FugueSpan). not (in_range u.peer (pos u.from) (pos u.to) v) || in_i16 ((base_of u.diff v).delete_times +ℤ u.change)) (units_of s) (expand l)
+
+pub fits_first : (u : Update) (s : FugueSpan) (l : List FugueSpan) (t : Bool) → counts_fit u.peer (pos u.from) (pos u.to) u.change u.diff (units_of s) ≡ t → counts_fit u.peer (pos u.from) (pos u.to) u.change u.diff (expand (s ∷ l)) ≡ (t && counts_fit u.peer (pos u.from) (pos u.to) u.change u.diff (expand l))
+fits_first u s l t e = fits_row u s l ∙ ap (λ (b : Bool). b && counts_fit u.peer (pos u.from) (pos u.to) u.change u.diff (expand l)) e
+
+none_fit : (u : Update) → counts_fit u.peer (pos u.from) (pos u.to) u.change u.diff (expand []) ≡ true
+unfolding counts_fit every expand
+none_fit u = refl
+
+pub fits_end : (u : Update) (r : List (List ℕ)) (i : ℕ) → length r ≤ i → counts_fit u.peer (pos u.from) (pos u.to) u.change u.diff (expand (spans (drop i r))) ≡ true
+fits_end u r i h = ap (λ (q : List (List ℕ)). counts_fit u.peer (pos u.from) (pos u.to) u.change u.diff (expand (spans q))) (drop_of_length-le r {i = i} h) ∙ none_fit u
 
 module _ (u : Update) (n : ℕ) (s : List ℕ) (i : ℕ) where
   abbrev all : List FugueSpan → Bool

@@ -1,85 +1,91 @@
 // What a well formed list is (refusal 15), part by part: the spans and their joins, the units, the ids, the origins.
-ghost use Rattle.std.specs.Prelude.{◌≡◌, ◌&&◌, [], ◌+◌, ◌*◌, ◌≤◌, ◌<◌, length, drop};
+ghost use Rattle.std.specs.Prelude.{◌≡◌, ◌&&◌, [], ◌*◌, ◌≤◌, length, map, sum};
+ghost use Rattle.span.specs.Span.{len_span};
 ghost use Rattle.span.specs.Units.{expand};
 ghost use Rattle.store.specs.Row.{rows};
+ghost use Rattle.store.specs.Listed.{spans};
 ghost use Rattle.rope.specs.Spans.{apart_rows, AllOk};
 ghost use Rattle.units.specs.Store.{touching, joined_rows, named, origins_named, well_formed};
 
 use crate::find::{has, holds};
 use crate::order::{order, origins_sorted};
-use crate::place::len_of;
 use span::ids::Id;
 use span::span::FugueSpan;
 use store::limits::UNITS;
+use store::list::{self, Row, span_of};
 
 // Whether no id stands twice in the list (of refusal 15).
-#[tactic(auto, using(crate::proofs::Rights::row_drop, crate::proofs::Rights::row_none, crate::proofs::Rights::row_take, crate::proofs::Twice::rows_take), unfolding(crate::specs::Spans::apart_rows))]
-pub fn distinct(s: &[u8], n: usize) -> bool
-    requires { n * 72 ≤ length s.now }
-    ensures { result ≡ apart_rows [] (rows n s.now) }
+#[tactic(auto, using(crate::proofs::Readers::taken), unfolding(crate::specs::Spans::apart_rows))]
+pub fn distinct(rows: &[Row]) -> bool
+    ensures { result ≡ apart_rows [] (spans rows.now) }
 {
-    for i in 0..n {
-        if holds(s, i, store::get_row(s, i)) {
+    for (i, row) in rows.iter().enumerate() {
+        if holds(&rows[..i], span_of(row)) {
             return false;
         }
     }
     true
 }
 
-// Whether a span joins the row after row i.
-#[tactic(auto, using(crate::proofs::Rights::row_drop, crate::proofs::Rights::row_none), unfolding(units::specs::Store::touching))]
-pub fn touches(s: &[u8], n: usize, i: usize, row: FugueSpan) -> bool
-    requires { (n * 72 ≤ length s.now) × (i < n) }
-    ensures { result ≡ touching row (drop (i + 1) (rows n s.now)) }
+// Whether a span joins the first of the rows behind it.
+#[tactic(auto, unfolding(units::specs::Store::touching))]
+pub fn touches(row: FugueSpan, behind: &[Row]) -> bool
+    ensures { result ≡ touching row (spans behind.now) }
 {
-    i + 1 < n && row.can_merge(store::get_row(s, i + 1))
+    behind
+        .first()
+        .is_some_and(|next| row.can_merge(span_of(next)))
 }
 
 // Whether each span is well formed and no two neighbours join (of refusal 15).
-#[tactic(auto, using(crate::proofs::Rights::row_drop, crate::proofs::Rights::row_none, crate::proofs::Checks::code_ok, crate::proofs::Checks::code_err), unfolding(units::specs::Store::joined_rows))]
-pub fn joined(s: &[u8], n: usize) -> bool
-    requires { n * 72 ≤ length s.now }
-    ensures { result ≡ joined_rows (rows n s.now) }
+#[tactic(auto, using(crate::proofs::Checks::code_ok, crate::proofs::Checks::code_err), unfolding(units::specs::Store::joined_rows))]
+pub fn joined(rows: &[Row]) -> bool
+    ensures { result ≡ joined_rows (spans rows.now) }
 {
-    for i in 0..n {
-        let row = store::get_row(s, i);
-        if row.check().is_err() || touches(s, n, i, row) {
+    for (i, row) in rows.iter().enumerate() {
+        let row = span_of(row);
+        if row.check().is_err() || touches(row, &rows[i + 1..]) {
             return false;
         }
     }
     true
 }
 
-// The number of units.
-pub fn units(s: &[u8], n: usize) -> usize
-    requires { (n * 72 ≤ length s.now) × (n ≤ 65536) }
-    ensures { result ≡ length (expand (rows n s.now)) }
+// The number of units, span by span.
+fn lens(rows: &[Row]) -> usize
+    requires { length rows.now ≤ 65536 }
+    ensures { result ≡ sum (map len_span (spans rows.now)) }
 {
-    let mut sum = 0;
-    for i in 0..n {
-        sum += len_of(store::get_row(s, i));
-    }
-    sum
+    rows.iter().map(|row| span_of(row).rle_len() as usize).sum()
+}
+
+// The number of units.
+#[tactic(auto, using(crate::proofs::Readers::units_sum))]
+pub fn units(rows: &[Row]) -> usize
+    requires { length rows.now ≤ 65536 }
+    ensures { result ≡ length (expand (spans rows.now)) }
+{
+    lens(rows)
 }
 
 // Whether an origin is none or names a unit of the list.
 #[tactic(auto, unfolding(units::specs::Store::named))]
-pub fn is_named(s: &[u8], n: usize, o: Option<Id>) -> bool
-    requires { (n * 72 ≤ length s.now) × AllOk (rows n s.now) }
-    ensures { result ≡ named o (expand (rows n s.now)) }
+pub fn is_named(rows: &[Row], o: Option<Id>) -> bool
+    requires { AllOk (spans rows.now) }
+    ensures { result ≡ named o (expand (spans rows.now)) }
 {
-    o.is_none() || has(s, n, o)
+    o.is_none() || has(rows, o)
 }
 
 // Whether every origin is.
-#[tactic(auto, using(crate::proofs::Rights::row_drop, crate::proofs::Rights::row_none), unfolding(units::specs::Store::origins_named))]
-pub fn origins(s: &[u8], n: usize) -> bool
-    requires { (n * 72 ≤ length s.now) × AllOk (rows n s.now) }
-    ensures { result ≡ origins_named (rows n s.now) (expand (rows n s.now)) }
+#[tactic(auto, unfolding(units::specs::Store::origins_named))]
+pub fn origins(rows: &[Row]) -> bool
+    requires { AllOk (spans rows.now) }
+    ensures { result ≡ origins_named (spans rows.now) (expand (spans rows.now)) }
 {
-    for i in 0..n {
-        let row = store::get_row(s, i);
-        if !is_named(s, n, row.origin_left) || !is_named(s, n, row.origin_right) {
+    for row in rows {
+        let row = span_of(row);
+        if !is_named(rows, row.origin_left) || !is_named(rows, row.origin_right) {
             return false;
         }
     }
@@ -87,11 +93,11 @@ pub fn origins(s: &[u8], n: usize) -> bool
 }
 
 // No id twice and every origin named, plain: each id and each origin is looked up among all rows.
-fn plain(s: &[u8], n: usize) -> bool
-    requires { (n * 72 ≤ length s.now) × AllOk (rows n s.now) }
-    ensures { result ≡ (apart_rows [] (rows n s.now) && origins_named (rows n s.now) (expand (rows n s.now))) }
+fn plain(rows: &[Row]) -> bool
+    requires { AllOk (spans rows.now) }
+    ensures { result ≡ (apart_rows [] (spans rows.now) && origins_named (spans rows.now) (expand (spans rows.now))) }
 {
-    distinct(s, n) && origins(s, n)
+    distinct(rows) && origins(rows)
 }
 
 // The same by the order of the ids, in n log n.
@@ -110,8 +116,9 @@ pub fn well_formed(s: &[u8], n: usize) -> bool
     requires { (n * 72 ≤ length s.now) × (n ≤ 65536) }
     ensures { result ≡ well_formed (rows n s.now) }
 {
-    if !joined(s, n) || UNITS < units(s, n) {
+    let rows = list::rows(s, n);
+    if !joined(rows) || UNITS < units(rows) {
         return false;
     }
-    if n < 128 { plain(s, n) } else { ordered(s, n) }
+    if n < 128 { plain(rows) } else { ordered(s, n) }
 }

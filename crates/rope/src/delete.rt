@@ -20,6 +20,7 @@ use crate::state::check;
 use span::ids::{Id, real_has_room};
 use span::refusal::Refusal;
 use store::header;
+use store::list::rows;
 
 // The delete of len visible units from a position on, in a well formed list with room for what it becomes. The answer is the number
 // of rows.
@@ -45,7 +46,8 @@ pub fn refuse_delete(
     if !real_has_room(Some(d.start), d.len) {
         return Err(Refusal::Id);
     }
-    if visible(s, n) < d.at as usize + d.len as usize {
+    let list = rows(s, n);
+    if visible(list) < d.at as usize + d.len as usize {
         return Err(Refusal::Range);
     }
     if most < count(s, n, Change::Delete(d)) {

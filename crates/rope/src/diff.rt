@@ -3,6 +3,7 @@ ghost use Rattle.std.specs.Prelude.{◌≡◌, ◌+◌, ◌<◌, length, Ok};
 ghost use Rattle.span.specs.Answer.{answer};
 ghost use Rattle.span.specs.Refusal.{refused};
 ghost use Rattle.store.specs.Row.{rows};
+ghost use Rattle.store.specs.Listed.{spans};
 ghost use Rattle.units.specs.Lists.{every};
 ghost use Rattle.units.specs.Store.{spans_of};
 ghost use Rattle.rope.specs.Spans.{Stored};
@@ -15,6 +16,7 @@ use span::ids::{Id, UNKNOWN_PEER};
 use span::refusal::Refusal;
 use span::span::{DiffStatus, FugueSpan};
 use store::header;
+use store::list::{self, Row, span_of};
 use units::diff::Entry;
 
 // An entry, with the row and the gap from which the rest goes on.
@@ -118,12 +120,11 @@ pub fn next_entry(s: &[u8], n: usize, from: usize, since: u32) -> Option<Step>
 }
 
 // Whether the delta has a real id for all that comes in.
-pub fn all_real(s: &[u8], n: usize) -> bool
-    requires { Stored n s.now }
-    ensures { result ≡ every insertable (rows n s.now) }
+pub fn all_real(rows: &[Row]) -> bool
+    ensures { result ≡ every insertable (spans rows.now) }
 {
-    for i in 0..n {
-        if !can_insert(store::get_row(s, i)) {
+    for row in rows {
+        if !can_insert(span_of(row)) {
             return false;
         }
     }
@@ -255,7 +256,8 @@ pub fn diff_len(s: &[u8], n: usize, room: usize) -> Result<usize, Refusal>
     requires { Stored n s.now }
     ensures { result ≡ answer Ok refused (diff_rows_code room (rows n s.now)) (length (entries (rows n s.now))) }
 {
-    if !all_real(s, n) {
+    let list = list::rows(s, n);
+    if !all_real(list) {
         return Err(Refusal::NoRealId);
     }
     let many = count_entries(s, n);

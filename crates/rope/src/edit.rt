@@ -21,8 +21,8 @@ use span::chunk::RichtextChunk;
 use span::ids::{Id, UNKNOWN_PEER};
 use span::refusal::Refusal;
 use span::span::FugueSpan;
-use store::header;
 use store::limits::UNITS;
+use store::{header, list};
 
 // Inserts a new span at a visible position.
 pub fn insert(
@@ -47,7 +47,8 @@ pub fn insert_span(s: &mut [u8], pos: u32, x: FugueSpan) -> Result<(), Refusal>
 {
     let n = header::count(s) as usize;
     let rows = &s[72..];
-    let sum = units(rows, n);
+    let list = list::rows(rows, n);
+    let sum = units(list);
     first_code(rows, n, sum, pos, x)?;
     let p = plan_insert(rows, n, sum, pos, x);
     if header::room(s) < p.rows(n) {
@@ -62,13 +63,14 @@ pub fn first_code(s: &[u8], n: usize, units: usize, pos: u32, x: FugueSpan) -> R
     requires { Asked n units x s.now }
     ensures { code_of result ≡ insert_first (rows n s.now) pos x }
 {
+    let list = list::rows(s, n);
     if x.id.peer == UNKNOWN_PEER {
         return Err(Refusal::Id);
     }
-    if holds(s, n, x) {
+    if holds(list, x) {
         return Err(Refusal::IdTaken);
     }
-    if visible(s, n) < pos as usize {
+    if visible(list) < pos as usize {
         return Err(Refusal::Range);
     }
     if UNITS < units + len_of(x) {

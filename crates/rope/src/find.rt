@@ -1,13 +1,14 @@
 // Search by id: where in a span an id stands, and which row of the list has it (`find_elem` of 000).
-ghost use Rattle.std.specs.Prelude.{◌≡◌, ◌*◌, ◌≤◌, length};
+ghost use Rattle.std.specs.Prelude.{◌≡◌};
 ghost use Rattle.span.specs.Units.{expand};
-ghost use Rattle.store.specs.Row.{rows};
+ghost use Rattle.store.specs.Listed.{spans};
 ghost use Rattle.units.specs.Place.{mem_id};
 ghost use Rattle.rope.specs.Spans.{offset_of, covered, find_in, meets_span, holds_any, AllOk};
 
 use span::ids::Id;
 use span::span::FugueSpan;
 use span::status::counter_of;
+use store::list::{Row, span_of};
 
 // Which unit of a span has an id.
 #[tactic(auto, unfolding(crate::specs::Spans::offset_of, crate::specs::Spans::gap))]
@@ -31,14 +32,13 @@ pub fn covers(row: FugueSpan, o: Option<Id>) -> bool
     offset_of(row, o).is_some()
 }
 
-// The row and the unit of it that have an id, of the n rows lent.
-#[tactic(auto, using(crate::proofs::Rights::row_drop, crate::proofs::Rights::row_none), unfolding(crate::specs::Spans::find_in))]
-pub fn find_elem(s: &[u8], n: usize, o: Option<Id>) -> Option<(usize, u32)>
-    requires { n * 72 ≤ length s.now }
-    ensures { result ≡ find_in (rows n s.now) o 0 }
+// The row and the unit of it that have an id.
+#[tactic(auto, unfolding(crate::specs::Spans::find_in))]
+pub fn find_elem(rows: &[Row], o: Option<Id>) -> Option<(usize, u32)>
+    ensures { result ≡ find_in (spans rows.now) o 0 }
 {
-    for i in 0..n {
-        if let Some(offset) = offset_of(store::get_row(s, i), o) {
+    for (i, row) in rows.iter().enumerate() {
+        if let Some(offset) = offset_of(span_of(row), o) {
             return Some((i, offset));
         }
     }
@@ -46,11 +46,11 @@ pub fn find_elem(s: &[u8], n: usize, o: Option<Id>) -> Option<(usize, u32)>
 }
 
 // Whether an id is one of the list's.
-pub fn has(s: &[u8], n: usize, o: Option<Id>) -> bool
-    requires { (n * 72 ≤ length s.now) × AllOk (rows n s.now) }
-    ensures { result ≡ mem_id o (expand (rows n s.now)) }
+pub fn has(rows: &[Row], o: Option<Id>) -> bool
+    requires { AllOk (spans rows.now) }
+    ensures { result ≡ mem_id o (expand (spans rows.now)) }
 {
-    find_elem(s, n, o).is_some()
+    find_elem(rows, o).is_some()
 }
 
 // Whether two spans have an id in common: one of them has the other's first.
@@ -62,13 +62,12 @@ pub fn meets(a: FugueSpan, b: FugueSpan) -> bool
 }
 
 // Whether one of the ids of x is in the list (refusal 3).
-#[tactic(auto, using(crate::proofs::Rights::row_drop, crate::proofs::Rights::row_none), unfolding(crate::specs::Spans::holds_any))]
-pub fn holds(s: &[u8], n: usize, x: FugueSpan) -> bool
-    requires { n * 72 ≤ length s.now }
-    ensures { result ≡ holds_any (rows n s.now) x }
+#[tactic(auto, unfolding(crate::specs::Spans::holds_any))]
+pub fn holds(rows: &[Row], x: FugueSpan) -> bool
+    ensures { result ≡ holds_any (spans rows.now) x }
 {
-    for i in 0..n {
-        if meets(store::get_row(s, i), x) {
+    for row in rows {
+        if meets(span_of(row), x) {
             return true;
         }
     }

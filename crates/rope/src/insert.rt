@@ -73,7 +73,8 @@ pub fn plan_scan(
     requires { AtBorder n units at left x s.now }
     ensures { Planned result n (border_units at left x (rows n s.now)) s.now }
 {
-    let right = right_from(s, n, at);
+    let list = store::list::rows(s, n);
+    let right = right_from(list, at);
     let r = scan_from(s, n, units, at, left, right, x.id.peer);
     plan_border(s, n, at + r, with_origins(x, left, right))
 }

@@ -3,12 +3,14 @@ ghost use Rattle.std.specs.Prelude.{◌≡◌, false, [], ◌*◌, ◌≤◌, �
 ghost use Rattle.span.specs.Span.{len_span, span_code};
 ghost use Rattle.span.specs.Units.{expand};
 ghost use Rattle.store.specs.Row.{rows};
+ghost use Rattle.store.specs.Listed.{spans};
 ghost use Rattle.units.specs.Place.{first_past, pr_pos, sibling, verdict};
 ghost use Rattle.rope.specs.Spans.{right_in, run_s, AllOk, Held, place_s};
 
 use crate::find::{covers, offset_of};
 use span::ids::Id;
 use span::span::FugueSpan;
+use store::list::{Row, span_of};
 use units::place::{Verdict, by_pos};
 
 // What a span tells of a parent right: it is this unit of it, it is a unit with another origin left, or no unit of it.
@@ -139,13 +141,13 @@ pub fn scan(
     place
 }
 
-// The first unit of k rows that is not future.
-pub fn first_past(s: &[u8], k: usize) -> Option<Id>
-    requires { (k * 72 ≤ length s.now) × AllOk (rows k s.now) }
-    ensures { result ≡ first_past (expand (rows k s.now)) }
+// The first unit of some rows that is not future.
+pub fn first_past(rows: &[Row]) -> Option<Id>
+    requires { AllOk (spans rows.now) }
+    ensures { result ≡ first_past (expand (spans rows.now)) }
 {
-    for i in 0..k {
-        let row = store::get_row(s, i);
+    for row in rows {
+        let row = span_of(row);
         if !row.status.future {
             return Some(row.id);
         }
@@ -154,11 +156,11 @@ pub fn first_past(s: &[u8], k: usize) -> Option<Id>
 }
 
 // Origin right for a cursor before row `at`: the first unit from there on that is not future.
-pub fn right_from(s: &[u8], n: usize, at: usize) -> Option<Id>
-    requires { (n * 72 ≤ length s.now) × AllOk (rows n s.now) × (at ≤ n) }
-    ensures { result ≡ first_past (expand (drop at (rows n s.now))) }
+pub fn right_from(rows: &[Row], at: usize) -> Option<Id>
+    requires { AllOk (spans rows.now) × (at ≤ length rows.now) }
+    ensures { result ≡ first_past (expand (drop at (spans rows.now))) }
 {
-    first_past(&s[at * 72..], n - at)
+    first_past(&rows[at..])
 }
 
 // The scan from a cursor before row `at`: the rows from the cursor on are handed to it as a part.

@@ -1,7 +1,7 @@
 // The questions that a store answers: its visible length, and what stands at a visible position.
 ghost use Rattle.std.specs.Prelude.{◌≡◌};
-ghost use Rattle.store.specs.Row.{rows};
-ghost use Rattle.rope.specs.Spans.{Stored};
+ghost use Rattle.store.specs.Listed.{spans};
+ghost use Rattle.rope.specs.Spans.{AllOk};
 ghost use Rattle.units.specs.Query.{real_span_at};
 ghost use Rattle.rope.specs.Entries.{len_answer, real_said, real_answer};
 
@@ -10,6 +10,7 @@ use crate::state::check;
 use span::ids::Id;
 use span::refusal::Refusal;
 use store::header;
+use store::list::{Row, rows, span_of};
 
 // The visible length of a store.
 pub fn visible_len(s: &[u8]) -> Result<usize, Refusal>
@@ -19,18 +20,18 @@ pub fn visible_len(s: &[u8]) -> Result<usize, Refusal>
         return Err(Refusal::Store);
     }
     let n = header::count(s) as usize;
-    Ok(visible(&s[72..], n))
+    let list = rows(&s[72..], n);
+    Ok(visible(list))
 }
 
 // The real id at a visible position of the rows and the units left in its span; none from the visible length on.
-#[tactic(auto, using(crate::proofs::Rights::row_drop, crate::proofs::Rights::row_none), unfolding(units::specs::Query::real_span_at))]
-pub fn real_at(s: &[u8], n: usize, pos: u32) -> Option<(Id, u32)>
-    requires { Stored n s.now }
-    ensures { result ≡ real_said (real_span_at (rows n s.now) pos) }
+pub fn real_at(rows: &[Row], pos: u32) -> Option<(Id, u32)>
+    requires { AllOk (spans rows.now) }
+    ensures { result ≡ real_said (real_span_at (spans rows.now) pos) }
 {
     let mut left = pos;
-    for i in 0..n {
-        let row = store::get_row(s, i);
+    for row in rows {
+        let row = span_of(row);
         let len = row.activated_len();
         if left < len {
             let rest = row.piece(left, len);
@@ -49,5 +50,6 @@ pub fn active_real_span_at(s: &[u8], pos: u32) -> Result<Option<(Id, u32)>, Refu
         return Err(Refusal::Store);
     }
     let n = header::count(s) as usize;
-    Ok(real_at(&s[72..], n, pos))
+    let list = rows(&s[72..], n);
+    Ok(real_at(list, pos))
 }

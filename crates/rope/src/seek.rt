@@ -1,11 +1,10 @@
 // Visible positions: the visible length, and the row and offset of a position.
-ghost use Rattle.std.specs.Prelude.{◌≡◌, ◌*◌, ◌≤◌, ◌<◌, length};
+ghost use Rattle.std.specs.Prelude.{◌≡◌, ◌*◌, ◌≤◌, ◌<◌, length, map, sum};
 ghost use Rattle.span.specs.Span.{active_len};
 ghost use Rattle.span.specs.Units.{expand};
-ghost use Rattle.store.specs.Row.{rows};
 ghost use Rattle.store.specs.Listed.{spans};
 ghost use Rattle.units.specs.Place.{shown};
-ghost use Rattle.rope.specs.Spans.{Stored, seek_in};
+ghost use Rattle.rope.specs.Spans.{seek_in};
 
 use span::span::FugueSpan;
 use store::list::{Row, span_of};
@@ -39,16 +38,23 @@ pub fn seek(rows: &[Row], pos: u32) -> Cursor
     }
 }
 
-// The visible length. A well formed list has few enough units to count.
-pub fn visible(s: &[u8], n: usize) -> usize
-    requires { Stored n s.now }
-    ensures { result ≡ shown (expand (rows n s.now)) }
+// The visible length, span by span.
+fn visible_lens(rows: &[Row]) -> usize
+    requires { length rows.now ≤ 65536 }
+    ensures { result ≡ sum (map active_len (spans rows.now)) }
 {
-    let mut sum = 0;
-    for i in 0..n {
-        sum += active_of(store::get_row(s, i));
-    }
-    sum
+    rows.iter()
+        .map(|row| span_of(row).activated_len() as usize)
+        .sum()
+}
+
+// The visible length. A list has few enough rows to count.
+#[tactic(auto, using(crate::proofs::Readers::shown_sum))]
+pub fn visible(rows: &[Row]) -> usize
+    requires { length rows.now ≤ 65536 }
+    ensures { result ≡ shown (expand (spans rows.now)) }
+{
+    visible_lens(rows)
 }
 
 pub fn active_of(row: FugueSpan) -> usize

@@ -5,6 +5,7 @@ ghost use Rattle.span.specs.Span.{span_code};
 ghost use Rattle.span.specs.Status.{in_i16};
 ghost use Rattle.span.specs.Units.{units_of, expand, join};
 ghost use Rattle.store.specs.Row.{rows};
+ghost use Rattle.store.specs.Listed.{spans};
 ghost use Rattle.units.specs.Change.{base_of, in_range, update_units};
 ghost use Rattle.units.specs.Codes.{holds_all, counts_fit, update_code};
 ghost use Rattle.units.specs.Lists.{keep_if};
@@ -23,6 +24,7 @@ use span::refusal::Refusal;
 use span::span::FugueSpan;
 use span::status::counter_of;
 use store::header;
+use store::list::{self, Row, span_of};
 use units::change::SetFuture;
 
 // The update of a range of counters of a peer, in a well formed list with room for what it becomes, which the entry asked. The answer is the
@@ -53,12 +55,12 @@ pub fn row_fits(u: Update, row: FugueSpan) -> bool
 }
 
 // Whether an update keeps every count within i16 (refusal 11), in a well formed list, which the entry asked.
-pub fn counts_fit(s: &[u8], n: usize, u: Update) -> bool
-    requires { (n * 72 ≤ length s.now) × AllOk (rows n s.now) × (u.from ≤ u.to) }
-    ensures { result ≡ counts_fit u.peer (pos u.from) (pos u.to) u.change u.diff (expand (rows n s.now)) }
+pub fn counts_fit(rows: &[Row], u: Update) -> bool
+    requires { AllOk (spans rows.now) × (u.from ≤ u.to) }
+    ensures { result ≡ counts_fit u.peer (pos u.from) (pos u.to) u.change u.diff (expand (spans rows.now)) }
 {
-    for i in 0..n {
-        if !row_fits(u, store::get_row(s, i)) {
+    for row in rows {
+        if !row_fits(u, span_of(row)) {
             return false;
         }
     }
@@ -100,7 +102,8 @@ pub fn refuse_update(s: &[u8], n: usize, u: Update, most: usize) -> Result<(), R
     if most < rows_after(s, n, u) {
         return Err(Refusal::Room);
     }
-    if !counts_fit(s, n, u) {
+    let list = list::rows(s, n);
+    if !counts_fit(list, u) {
         return Err(Refusal::Count);
     }
     Ok(())

@@ -80,7 +80,7 @@ pub fn weigh(
 {
     if row.origin_left == x {
         judge(all, n, count, row, o, p, q)
-    } else if has(part, i, row.origin_left) {
+    } else if has(store::list::rows(part, i), row.origin_left) {
         Verdict::Keep
     } else {
         Verdict::Stop
@@ -142,7 +142,8 @@ pub fn stays_from(
     requires { Sees n s.now h e.now t.now m v.now m v.now × (at ≤ n) }
     ensures { result ≡ stays_at (pairs m v.now) (verdict (expand (rows n s.now)) x o (pr_pos (expand (rows n s.now)) x o) q) [] false (drop at (rows n s.now)) }
 {
-    let count = units(s, n);
+    let list = store::list::rows(s, n);
+    let count = units(list);
     let p = parent_pos(s, n, count, x, o);
     stays(
         &s[at * 72..],

@@ -8,6 +8,7 @@ use rope::seek::visible;
 use span::ids::Id;
 use span::refusal::Refusal;
 use store::header;
+use store::list::rows;
 
 pub fn visible_len(s: &[u8], t: &[u8], e: &[u8]) -> Result<usize, Refusal>
     ensures { result ≡ len_asked s.now t.now e.now }
@@ -16,7 +17,8 @@ pub fn visible_len(s: &[u8], t: &[u8], e: &[u8]) -> Result<usize, Refusal>
         return Err(Refusal::Store);
     }
     let n = header::count(s) as usize;
-    Ok(visible(&s[72..], n))
+    let list = rows(&s[72..], n);
+    Ok(visible(list))
 }
 
 pub fn active_real_span_at(
@@ -31,5 +33,6 @@ pub fn active_real_span_at(
         return Err(Refusal::Store);
     }
     let n = header::count(s) as usize;
-    Ok(real_at(&s[72..], n, pos))
+    let list = rows(&s[72..], n);
+    Ok(real_at(list, pos))
 }

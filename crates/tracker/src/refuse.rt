@@ -69,7 +69,8 @@ pub fn refuse_insert(
     if EDITS <= h {
         return Err(Refusal::Edits);
     }
-    let many = units(s, n) + len_of(x);
+    let list = store::list::rows(s, n);
+    let many = units(list) + len_of(x);
     if UNITS < many || !insert_in_rows(s, n, e, h, t, v, m, at, x, many, most) {
         return Err(Refusal::Room);
     }
@@ -91,7 +92,8 @@ fn delete_in_rows(
     requires { Deleting n s.now h e.now t.now m v.now d × CanDelete d }
     ensures { result ≡ delete_fits most (units_seen n s.now h e.now t.now m v.now) d }
 {
-    units(s, n) <= most
+    let list = store::list::rows(s, n);
+    units(list) <= most
         || (count_seen(s, n, e, h, t, v, m, v, m, false) <= most
             && count_deleted(s, n, e, h, t, v, m, d) <= most)
 }

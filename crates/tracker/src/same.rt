@@ -188,7 +188,8 @@ pub fn same_units(s: &[u8], n: usize, e: &[u8], h: usize, placeholder: u64) -> b
     requires { Stored n s.now × (h * 256 ≤ length e.now) × (h ≤ EDITS) × ((t : List ℕ) → edits_fit [] (held h e.now t) ≡ true) }
     ensures { (t : List ℕ) → result ≡ same_units (expand (rows n s.now)) ((start placeholder).list ++ edit_units (held h e.now t)) }
 {
+    let list = store::list::rows(s, n);
     placeholder <= UNITS as u64
-        && units(s, n) as u64 == placeholder + sum_made(e, h)
+        && units(list) as u64 == placeholder + sum_made(e, h)
         && rows_made(s, n, e, h, placeholder as u32)
 }

@@ -1,16 +1,24 @@
-use Rattle.span.specs.declared.span.FugueSpan.{FugueSpan}
-use Rattle.std.specs.Prelude.{Some as At}
 use mathlib.Core.Bool.{true, false}
-use mathlib.Core.Path.{sym, ap, ◌∙◌}
+use mathlib.Core.Path.{sym, ◌∙◌}
 use Rattle.rope.proofs.Turns.{not-true, not-false}
-use Rattle.rope.proofs.Steps.{past_turn, past_done}
+use Rattle.rope.proofs.Readers.{fine_here, past_here, past_end}
 use Rattle.rope.proofs.place.first_past.Goals as goal
 
 pub returns-then-not-row : goal.returns-then-not-row
-returns-then-not-row c = let l = c.loop-i in let a = c.args in let p = c.requires in sym (l.invariant ∙ (past_turn a.k a.s.now l.i p.1 c.loop-i-test.true false (ap (λ (r : FugueSpan). r.status.future) (sym c.get_row-row.ensures) ∙ not-true _ c.if-not-row.true) ∙ ap (λ (r : FugueSpan). At r.id) (sym c.get_row-row.ensures)))
+returns-then-not-row c =
+    let l = c.loop-row in
+    sym (sym l.invariant.1 ∙ past_here c.args.rows.now l.row-index c.loop-row-test.true _ c.span_of-row.ensures l.invariant.0 false (not-true _ c.if-not-row.true))
 
-pub loop-i-preserved : goal.loop-i-preserved
-loop-i-preserved c = let l = c.loop-i in let a = c.args in let p = c.requires in l.invariant ∙ past_turn a.k a.s.now l.i p.1 c.loop-i-test.true true (ap (λ (r : FugueSpan). r.status.future) (sym c.get_row-row.ensures) ∙ not-false _ c.if-not-row.false)
+pub loop-row-preserved : goal.loop-row-preserved
+loop-row-preserved c =
+    let l = c.loop-row in
+    let r = c.args.rows.now in
+    let h = c.loop-row-test.true in (
+      (fine_here r l.row-index h _ c.span_of-row.ensures l.invariant.0).1,
+      sym (past_here r l.row-index h _ c.span_of-row.ensures l.invariant.0 true (not-false _ c.if-not-row.false)) ∙ l.invariant.1,
+    )
 
 pub returns : goal.returns
-returns c = let l = c.loop-i in let a = c.args in let p = c.requires in sym (l.invariant ∙ past_done a.k a.s.now l.i p.1 c.loop-i-test.false)
+returns c =
+    let l = c.loop-row in
+    sym (sym l.invariant.1 ∙ past_end c.args.rows.now l.row-index c.loop-row-test.false)

@@ -1,8 +1,9 @@
 use mathlib.Core.Path.{◌≡◌}
 use lib.ListN.{drop}
-use Rattle.store.specs.Row.{rows}
+use Rattle.store.specs.Listed.{spans}
 use Rattle.units.specs.Query.{real_span_at}
+use Rattle.rope.specs.Spans.{AllOk}
 use Rattle.rope.proofs.query.real_at.Given as goal
 
-abbrev pub invariant-loop-i : goal.invariant-loop-i
-invariant-loop-i l = real_span_at (rows l.n l.s) l.pos ≡ real_span_at (drop l.i (rows l.n l.s)) l.left
+abbrev pub invariant-loop-row : goal.invariant-loop-row
+invariant-loop-row l = AllOk (spans (drop l.row-index l.rows)) × (real_span_at (spans (drop l.row-index l.rows)) l.left ≡ real_span_at (spans l.rows) l.fn.pos)

@@ -8,22 +8,27 @@ use mathlib.Core.Bool.{Bool, ◌&&◌}
 use Prim.Native.Nat.{ℕ}
 use lib.Dec.{leb}
 use lib.ListN.{length}
-use Rattle.span.specs.Units.{join}
+use Rattle.span.specs.Units.{expand, join}
+use mathlib.Core.List.{List}
+use Rattle.span.specs.declared.span.FugueSpan.{FugueSpan}
 use Rattle.units.specs.Limits.{fits}
 use Rattle.units.specs.Change.{delete_units}
 use native.Mathlib.Omega.{arith}
 use Rattle.tracker.proofs.refuse.delete_in_rows.Goals as goal
 
+pub rows-list-requires : goal.rows-list-requires
+rows-list-requires c = c.requires.0.sees.stored.long
+
 pub units-requires : goal.units-requires
 units-requires c =
     let x = c.args in
-    (c.requires.0.sees.stored.long, stored_few x.n x.s.now c.requires.0.sees.stored)
+    omega (arith, c.rows-list.ensures.len, stored_few x.n x.s.now c.requires.0.sees.stored)
 
 pub returns-then-units-most : goal.returns-then-units-most
 returns-then-units-most c =
     let x = c.args in let us = units_seen x.n x.s.now x.h x.e.now x.t.now x.m x.v.now in
     let len = seen_length x.n x.s.now x.h x.e.now x.t.now x.m x.v.now in
-    le-leb _ _ c.if-units-most.true ∙ delete_roomy us x.d x.most (omega (arith, c.if-units-most.true, c.units.ensures, len))
+    le-leb _ _ c.if-units-most.true ∙ delete_roomy us x.d x.most (omega (arith, c.if-units-most.true, (c.units.ensures ∙ ap (λ (l : List FugueSpan). length (expand l)) c.rows-list.ensures.list), len))
 
 pub returns-else-count_seen-most : goal.returns-else-count_seen-most
 unfolding delete_fits fits
