@@ -34,6 +34,7 @@ pub struct Ready {
 }
 
 // What refuses two versions. The edits lie within the bytes, as the entries asked.
+#[tactic(auto, unfolding(crate::specs::Between::versions_code))]
 pub fn check_versions(
     e: &[u8],
     h: usize,
@@ -55,6 +56,7 @@ pub fn check_versions(
 }
 
 // What refuses a list with both statuses that was measured: no room for it, an insert without real id, no room for the entries.
+#[tactic(auto, unfolding(crate::specs::Between::rooms_code, rope::specs::Columns::diff_rows_code, units::specs::Limits::fits))]
 pub fn check_rooms(m: Measure, spans: usize, most: usize) -> Result<(), Refusal>
     ensures { (l : List FugueSpan) → Measures l m → code_of result ≡ rooms_code spans most l }
 {

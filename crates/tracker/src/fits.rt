@@ -164,6 +164,7 @@ pub fn stays_from(
 }
 
 // Whether a span entered right after the unit u, before row `at`, joins it.
+#[tactic(auto, unfolding(crate::specs::Fits::joins_at))]
 pub fn joins_at(
     s: &[u8],
     n: usize,
@@ -219,6 +220,7 @@ pub fn find_left(
 }
 
 // The unit before a cursor.
+#[tactic(auto, using(span::proofs::Unique::in_range_lem))]
 pub fn left_unit(n: usize, s: &[u8], f: Left) -> FugueSpan
     requires { Cut n s.now f }
     ensures { result ≡ left_unit f }
@@ -249,6 +251,7 @@ pub fn at_edge(n: usize, f: Left) -> bool
 }
 
 // Whether the new span joins the unit before the cursor: then that is the last of its row, since the new ids are its next.
+#[tactic(auto, unfolding(crate::specs::Fits::joins_left))]
 pub fn joins_left(
     s: &[u8],
     n: usize,

@@ -24,6 +24,7 @@ pub struct Measure {
 
 impl Measure {
     // One change more. A list has few enough rows to count.
+    #[tactic(auto, unfolding(crate::specs::Measures::changed))]
     pub fn change(self, real: bool) -> Self
         requires { (self.rows ≤ 1000000) × (self.entries ≤ 1000000) }
         ensures { result ≡ changed self real }
@@ -39,6 +40,7 @@ impl Measure {
     }
 
     // One row more. A list has few enough rows and units to count.
+    #[tactic(auto, using(crate::proofs::Measuring::some_real, rope::proofs::Seeks::active_most), unfolding(crate::specs::Measures::measured))]
     pub fn on(self, row: FugueSpan) -> Self
         requires { (self.rows ≤ 1000000) × (self.entries ≤ 1000000) × (self.gap + len_span row ≤ 1000000) }
         ensures { result ≡ measured self row }

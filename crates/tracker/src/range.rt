@@ -18,6 +18,7 @@ pub struct Taken {
 }
 
 // Whether an id is the next one after a range. Only for callers that know that the range's end is a counter.
+#[tactic(auto, using(span::proofs::Derived::id_derived))]
 pub fn follows(last: Target, id: Id) -> bool
     requires { room_of last.id last.len ≡ true }
     ensures { result ≡ same_id (inc_id last.id last.len) id }
@@ -70,6 +71,7 @@ impl Taken {
     }
 
     // How many ranges there are.
+    #[tactic(auto, using(crate::proofs::Taking::before_most, crate::proofs::Taking::many_none, crate::proofs::Taking::many_some))]
     pub fn many(self) -> usize
         requires { LastOk self.last × (ids_most self ≤ UNITS) }
         ensures { result ≡ ranges_with self [] }

@@ -16,6 +16,7 @@ use rope::stream::push;
 use span::span::FugueSpan;
 use span::status::Status;
 
+#[tactic(auto, unfolding(crate::specs::Restate::bare_span, units::specs::Change::with_state))]
 pub fn bare(row: FugueSpan) -> FugueSpan
     ensures { result ≡ bare_span row }
 {

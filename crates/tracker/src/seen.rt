@@ -32,6 +32,7 @@ pub struct Step {
 }
 
 // len units of a row from `from` on, with these statuses. An inner function: the callers know that the row has these units.
+#[tactic(auto, using(span::proofs::Unique::len_small, span::proofs::Unique::in_range_lem), unfolding(units::specs::Change::with_state))]
 pub fn part_with(
     row: FugueSpan,
     from: u32,

@@ -81,6 +81,7 @@ fn follows(s: &[u8], n: usize, t: &[u8], m: usize) -> bool
 }
 
 // Whether a range goes on in the next one.
+#[tactic(auto, using(crate::proofs::FollowLaws::next_range, crate::proofs::FollowLaws::no_range))]
 fn runs_into(t: &[u8], m: usize, j: usize, r: Target) -> bool
     requires { (m * 16 ≤ length t.now) × (j < m) × (room_of r.id r.len ≡ true) }
     ensures { result ≡ runs_into (to_range r) (drop (j + 1) (ranges m t.now)) }
@@ -115,6 +116,7 @@ fn sum_ranges(t: &[u8], m: usize) -> u64
 }
 
 // Whether what an edit took fits the list.
+#[tactic(auto, using(crate::proofs::TakenLaws::stored_ok), unfolding(crate::specs::Follow::took_fits))]
 fn took_fits(s: &[u8], n: usize, t: &[u8], m: usize, act: Does) -> bool
     requires { Stored n s.now × (m * 16 ≤ length t.now) × (m ≤ 65536) }
     ensures { result ≡ took_fits (expand (rows n s.now)) (to_act act) (ranges m t.now) }
