@@ -1,4 +1,3 @@
-use Prim.Native.Nat.{◌-◌}
 use lib.ListN.{length}
 use Rattle.tracker.specs.Rows.{pairs, held}
 use Rattle.tracker.specs.Ahead.{ahead}

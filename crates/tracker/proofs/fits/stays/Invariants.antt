@@ -1,4 +1,3 @@
-use Prim.Native.Nat.{◌-◌}
 use Rattle.span.specs.Units.{expand}
 use Rattle.store.specs.Row.{rows}
 use Rattle.units.specs.Place.{verdict}

@@ -6,7 +6,7 @@ use Rattle.std.proofs.lemmas.Result.{err_from_is_err_and}
 use Rattle.span.proofs.RefusalLaws.{number_not_zero}
 use mathlib.Core.Path.{sym, ap, ◌∙◌}
 use mathlib.Core.List.{List}
-use mathlib.Core.Bool.{true, false, not}
+use mathlib.Core.Bool.{true, not}
 use borrow.Author.Tests.{not-false}
 use Prim.Native.Nat.{ℕ}
 use Rattle.tracker.proofs.held.row_code.Goals as goal

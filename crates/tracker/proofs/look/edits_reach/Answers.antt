@@ -1,4 +1,3 @@
-use Prim.Native.Nat.{◌-◌}
 use native.Mathlib.Omega.{arith}
 use Rattle.tracker.specs.Rows.{pairs}
 use mathlib.Core.Path.{◌∙◌}

@@ -1,4 +1,3 @@
-use Prim.Native.Nat.{◌-◌}
 use Rattle.tracker.specs.Rows.{pairs}
 use Rattle.tracker.proofs.Reaches.{Run}
 use Rattle.tracker.proofs.look.edits_reach.Given as goal

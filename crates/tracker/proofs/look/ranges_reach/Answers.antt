@@ -1,5 +1,4 @@
 use Rattle.tracker.specs.Rows.{to_range}
-use Prim.Native.Nat.{◌-◌}
 use Rattle.tracker.proofs.Reaches.{ranged_turn, ranged_end}
 use mathlib.Core.Path.{refl}
 use Rattle.tracker.proofs.look.ranges_reach.Goals as goal

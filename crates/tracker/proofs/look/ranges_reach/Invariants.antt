@@ -1,4 +1,3 @@
-use Prim.Native.Nat.{◌-◌}
 use Rattle.tracker.proofs.Reaches.{Ranged}
 use Rattle.tracker.proofs.look.ranges_reach.Given as goal
 

@@ -4,7 +4,6 @@ use Rattle.tracker.specs.Restate.{bare_span}
 use Rattle.store.specs.Row.{rows}
 use mathlib.Core.Path.{◌≡◌, refl, ap, ◌∙◌}
 use lib.ListN.{length}
-use Prim.Native.Nat.{◌-◌}
 use native.Mathlib.Omega.{arith}
 use Rattle.tracker.proofs.restate.bare_rows.Goals as goal
 

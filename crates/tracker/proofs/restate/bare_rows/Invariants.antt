@@ -3,7 +3,6 @@ use Rattle.rope.specs.Streams.{Stream}
 use Rattle.store.specs.Row.{rows}
 use mathlib.Core.Path.{◌≡◌}
 use lib.ListN.{length}
-use Prim.Native.Nat.{◌-◌}
 use Rattle.tracker.proofs.restate.bare_rows.Given as goal
 
 abbrev pub invariant-loop-i : goal.invariant-loop-i

@@ -1,6 +1,6 @@
 use Rattle.tracker.proofs.Refines.{Pushing, push_start, push_fits, push_next, push_done}
 use Rattle.tracker.specs.Rows.{pairs, held}
-use Prim.Native.Nat.{ℕ, ◌+◌, ◌-◌}
+use Prim.Native.Nat.{ℕ, ◌+◌}
 use mathlib.Core.Path.{◌≡◌, sym, subst}
 use lib.ListN.{length}
 use native.Mathlib.Omega.{arith}

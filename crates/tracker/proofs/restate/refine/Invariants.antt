@@ -3,7 +3,6 @@ use Rattle.tracker.specs.Looks.{seen}
 use Rattle.tracker.specs.Rows.{pairs, held}
 use Rattle.store.specs.Row.{rows}
 use Rattle.span.specs.Units.{expand}
-use Prim.Native.Nat.{◌-◌}
 use mathlib.Core.Path.{◌≡◌}
 use lib.ListN.{length, drop}
 use Rattle.tracker.proofs.restate.refine.Given as goal

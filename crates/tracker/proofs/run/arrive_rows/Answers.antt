@@ -1,5 +1,5 @@
 use Rattle.tracker.proofs.Batching.{going_on, going_stop, going_end, row_lent}
-use Prim.Native.Nat.{◌-◌, ◌*◌}
+use Prim.Native.Nat.{◌*◌}
 use mathlib.Core.Path.{refl, sym, ◌∙◌}
 use Rattle.tracker.proofs.HeldLaws.{code_of-err, code_of-ok}
 use native.Mathlib.Omega.{arith}

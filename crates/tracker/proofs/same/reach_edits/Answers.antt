@@ -1,6 +1,5 @@
 use Rattle.tracker.proofs.MadeLaws.{searched_start, searched_done, searched_fine, searched_found, searched_next}
 use native.Mathlib.Omega.{arith}
-use Prim.Native.Nat.{◌-◌}
 use Rattle.tracker.proofs.same.reach_edits.Goals as goal
 
 pub loop-i-init : goal.loop-i-init

@@ -1,5 +1,4 @@
 use Rattle.tracker.proofs.MadeLaws.{Searched}
-use Prim.Native.Nat.{◌-◌}
 use Rattle.tracker.proofs.same.reach_edits.Given as goal
 
 abbrev pub invariant-loop-i : goal.invariant-loop-i

@@ -2,7 +2,6 @@ use Rattle.tracker.proofs.MadeLaws.{row_next, row_stop, row_done}
 use Rattle.tracker.specs.Made.{made_in}
 use native.Mathlib.Omega.{arith}
 use mathlib.Core.Path.{sym}
-use Prim.Native.Nat.{◌-◌}
 use Rattle.tracker.proofs.same.row_made.Goals as goal
 
 pub returns-then-r-eq0 : goal.returns-then-r-eq0

@@ -3,9 +3,7 @@ use Rattle.tracker.specs.Made.{made_in}
 use Rattle.rope.proofs.Rights.{row_ok}
 use Rattle.span.specs.Span.{span_code}
 use borrow.Author.Tests.{not-true, not-false}
-use native.Mathlib.Omega.{arith}
 use mathlib.Core.Path.{sym, ap, ◌∙◌}
-use Prim.Native.Nat.{◌-◌}
 use mathlib.Core.Bool.{not}
 use Rattle.tracker.proofs.same.rows_made.Goals as goal
 

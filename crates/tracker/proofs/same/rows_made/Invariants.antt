@@ -3,7 +3,6 @@ use Rattle.store.specs.Row.{rows}
 use Rattle.span.specs.Units.{expand}
 use lib.ListN.{drop}
 use mathlib.Core.Path.{◌≡◌}
-use Prim.Native.Nat.{◌-◌, ◌≤◌}
 use Rattle.tracker.proofs.same.rows_made.Given as goal
 
 abbrev pub invariant-loop-i : goal.invariant-loop-i

@@ -2,7 +2,7 @@ use native.Mathlib.Omega.{arith}
 use borrow.Author.Rules.{rules}
 use Rattle.std.proofs.lemmas.Grind.{common_steps}
 use Rattle.tracker.proofs.SameLaws.{unit_derived}
-use mathlib.Core.Path.{refl, sym, ◌∙◌}
+use mathlib.Core.Path.{sym}
 use Rattle.tracker.proofs.same.same_unit.Goals as goal
 
 pub returns-then-u : goal.returns-then-u

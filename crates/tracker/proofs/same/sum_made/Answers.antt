@@ -2,7 +2,6 @@ use Rattle.tracker.proofs.MadeLaws.{made_turn, made_done}
 use mathlib.Core.Path.{◌∙◌}
 use borrow.Author.Rules.{rules}
 use native.Mathlib.Omega.{arith}
-use Prim.Native.Nat.{◌-◌}
 use Rattle.tracker.proofs.same.sum_made.Goals as goal
 
 pub loop-i-preserved : goal.loop-i-preserved

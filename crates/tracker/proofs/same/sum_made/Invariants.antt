@@ -1,5 +1,4 @@
 use Rattle.tracker.proofs.MadeLaws.{Made}
-use Prim.Native.Nat.{◌-◌}
 use Rattle.tracker.proofs.same.sum_made.Given as goal
 
 abbrev pub invariant-loop-i : goal.invariant-loop-i

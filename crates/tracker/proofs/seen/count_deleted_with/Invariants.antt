@@ -2,7 +2,6 @@ use Rattle.tracker.proofs.Deleting.{Deleting}
 use Rattle.tracker.specs.Ahead.{ahead}
 use Rattle.tracker.specs.Rows.{pairs, held}
 use lib.ListN.{length}
-use Prim.Native.Nat.{◌-◌}
 use mathlib.Core.Path.{◌≡◌}
 use mathlib.Core.Bool.{false}
 use Rattle.tracker.proofs.seen.count_deleted_with.Given as goal

@@ -5,7 +5,7 @@ use Rattle.span.specs.declared.span.FugueSpan.{FugueSpan}
 use Rattle.tracker.proofs.FollowLaws.{going_start, going_done, going_stop, turn_row, turn_range, well_at}
 use Rattle.history.specs.Edit.{Range}
 use mathlib.Core.Path.{sym, ap, subst, ◌∙◌}
-use Prim.Native.Nat.{◌-◌, ◌<◌, ◌≤◌}
+use Prim.Native.Nat.{◌<◌, ◌≤◌}
 use Rattle.tracker.proofs.taken.follows.Goals as goal
 
 pub loop-j-init : goal.loop-j-init

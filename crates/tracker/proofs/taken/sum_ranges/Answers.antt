@@ -2,7 +2,6 @@ use Rattle.tracker.proofs.FollowLaws.{sum_turn, sum_done}
 use Rattle.history.specs.Edit.{Range}
 use borrow.Author.Rules.{rules}
 use mathlib.Core.Path.{ap, ◌∙◌}
-use Prim.Native.Nat.{◌-◌}
 use Rattle.tracker.proofs.taken.sum_ranges.Goals as goal
 
 pub loop-j-preserved : goal.loop-j-preserved

@@ -1,5 +1,4 @@
 use Rattle.tracker.proofs.FollowLaws.{Summed}
-use Prim.Native.Nat.{◌-◌}
 use Rattle.tracker.proofs.taken.sum_ranges.Given as goal
 
 abbrev pub invariant-loop-j : goal.invariant-loop-j

@@ -2,7 +2,6 @@ use Rattle.tracker.proofs.TakenLaws.{taking_used, taking_done, taking_stop, taki
 use borrow.Author.Tests.{not-true, not-false}
 use native.Mathlib.Omega.{arith}
 use mathlib.Core.Path.{sym}
-use Prim.Native.Nat.{◌-◌}
 use mathlib.Core.Path.{ap}
 use mathlib.Core.Bool.{not}
 use Rattle.tracker.proofs.taken.targets_fit.Goals as goal

@@ -1,5 +1,4 @@
 use Rattle.tracker.proofs.TakenLaws.{Taking}
-use Prim.Native.Nat.{◌-◌}
 use Rattle.tracker.proofs.taken.targets_fit.Given as goal
 
 abbrev pub invariant-loop-i : goal.invariant-loop-i

@@ -1,9 +1,7 @@
 use Rattle.tracker.proofs.FollowLaws.{well_turn, well_done}
 use borrow.Author.Tests.{eq-eqb, ne_eqb, not-true, not-false}
-use native.Mathlib.Omega.{arith}
 use mathlib.Core.Bool.{true, false}
 use mathlib.Core.Path.{refl, sym, ◌∙◌}
-use Prim.Native.Nat.{◌-◌}
 use mathlib.Core.Path.{ap}
 use mathlib.Core.Bool.{not}
 use Rattle.tracker.proofs.taken.well_ranges.Goals.{then-r-eq0-via-then-r-eq0, then-r-eq0-via-else-r-eq0+then-not-has_room, then-r-eq0-via-else-r-eq0+else-not-has_room+then-runs_into}

@@ -2,7 +2,6 @@ use Rattle.tracker.specs.Follow.{well_ranges}
 use Rattle.tracker.specs.Rows.{ranges}
 use lib.ListN.{drop}
 use mathlib.Core.Path.{◌≡◌}
-use Prim.Native.Nat.{◌-◌, ◌≤◌}
 use Rattle.tracker.proofs.taken.well_ranges.Given as goal
 
 abbrev pub invariant-loop-j : goal.invariant-loop-j

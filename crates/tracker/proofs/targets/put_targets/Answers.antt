@@ -1,6 +1,5 @@
 use Rattle.tracker.proofs.Targeting.{taking_start, taking_asks, taking_turn, taking_done}
 use Rattle.rope.specs.Pieces.{delete_cut, delete_after}
-use Prim.Native.Nat.{◌-◌}
 use mathlib.Core.Path.{ap, ◌∙◌}
 use native.Mathlib.Omega.{arith}
 use Rattle.tracker.proofs.targets.put_targets.Goals as goal

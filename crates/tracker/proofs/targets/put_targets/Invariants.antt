@@ -1,5 +1,4 @@
 use Rattle.tracker.proofs.Targeting.{Taking}
-use Prim.Native.Nat.{◌-◌}
 use Rattle.tracker.proofs.targets.put_targets.Given as goal
 
 abbrev pub invariant-loop-i : goal.invariant-loop-i
