@@ -15,7 +15,7 @@ pub fn bytes_at<const N: usize>(s: &[u8], at: usize) -> [u8; N]
     requires { at + N ≤ length s.now }
     ensures { result ≡ take N (drop at s.now) }
 {
-    let Some(bytes) = s[at..].first_chunk::<N>() else {
+    let Some(bytes) = s[at..at + N].first_chunk::<N>() else {
         unreachable!()
     };
     *bytes
