@@ -1,5 +1,5 @@
 -- the numbers of the calls are numbers of refusals, so what is said of a refusal is said of the number
-use Rattle.std.proofs.Common.{◌≡◌, ℕ, Bool, true, false, cond, eqb, List, refl, ap, ◌∙◌, sym, eqb-true}
+use Rattle.std.proofs.Common.{◌≡◌, ℕ, Bool, true, false, cond, eqb, List, refl, ap, ◌∙◌, eqb-true}
 use borrow.Author.Tests.{eqb-false}
 use Rattle.std.specs.Prelude.{Ok, Err}
 use Rattle.span.specs.declared.ids.Id.{Id}
@@ -11,7 +11,9 @@ use Rattle.rope.specs.Columns.{get_diff_code, diff_rows_code}
 use Rattle.rope.specs.Deletions.{delete_number}
 use Rattle.apply.specs.Apply.{apply_code}
 use Rattle.apply.specs.Called.{delta_code}
-use Rattle.session.specs.Applied.{list_code}
+use Rattle.tracker.specs.Between.{versions_code, rooms_code, delta_code_in, delta_number}
+use Rattle.session.specs.History.{telling_number}
+use Rattle.session.specs.Applied.{list_code, new_code, applied_code}
 
 -- 0, or the number of a refusal
 pub record IsNumber (code : ℕ) : Type 0 where
@@ -27,6 +29,14 @@ first = record { back = λ n. refl }
 pub second : IsNumber 2
 unfolding refusal_of
 second = record { back = λ n. refl }
+
+pub version : IsNumber 6
+unfolding refusal_of
+version = record { back = λ n. refl }
+
+pub not_closed : IsNumber 7
+unfolding refusal_of
+not_closed = record { back = λ n. refl }
 
 pub range : IsNumber 8
 unfolding refusal_of
@@ -56,7 +66,7 @@ pub either : (t : Bool) {x y : ℕ} → IsNumber x → IsNumber y → IsNumber (
 either true p q = p
 either false p q = q
 
-ruleset numbers = (either, done, first, second, range, room, unreal, output, mismatch, store)
+ruleset numbers = (either, done, first, second, version, not_closed, range, room, unreal, output, mismatch, store)
 
 -- ---------------------------------------------------------------- the calls
 
@@ -75,6 +85,16 @@ number_of_list s = search numbers depth 12
 pub number_of_apply : (k a b p c l old out : List ℕ) → IsNumber (delta_code k a b p c l old out)
 unfolding delta_code apply_code
 number_of_apply k a b p c l old out = search numbers depth 12
+
+pub number_of_delta : (most : ℕ) (v w s t e : List ℕ) → IsNumber (telling_number most v w s t e)
+unfolding delta_number delta_code_in versions_code rooms_code diff_rows_code
+number_of_delta most v w s t e = search numbers depth 16
+
+-- so `applied` prints the code that its contract names
+pub number_of_applied : (most : ℕ) (v w s t e s' out : List ℕ) → IsNumber (applied_code most v w s t e s' out)
+unfolding new_code
+number_of_applied most v w s t e s' out =
+    either _ (either _ (number_of_apply _ _ _ _ _ _ _ _) (number_of_list _)) (number_of_delta _ _ _ _ _ _)
 
 -- ---------------------------------------------------------------- an answer by its number
 

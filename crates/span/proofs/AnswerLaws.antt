@@ -7,7 +7,9 @@ use lib.Dec.{eqb}
 use borrow.Author.Tests.{ne_eqb, eqb-true, eqb-false}
 use Rattle.span.specs.Answer.{answer, lower}
 
--- Every public contract of this crate is `r ≡ definition arguments`: any two results that meet it, from the same arguments, are equal.
+-- A public contract of this crate is `r ≡ definition arguments`: any two results that meet it, from the same arguments, are equal. Six say the
+-- number, `code_of r ≡ definition arguments` (`check`, `check_merge`, `check_slice` of chunk and of span): for these `code_of-injective`
+-- (RefusalLaws) says it.
 pub determined : {A : Type 0} (definition : A) {r s : A} → r ≡ definition → s ≡ definition → r ≡ s
 determined d p q = p ∙ sym q
 
