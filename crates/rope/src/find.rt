@@ -10,13 +10,13 @@ use span::span::FugueSpan;
 use span::status::counter_of;
 use store::list::{Row, span_of};
 
-// Which unit of a span has an id.
+// Which unit of a span has an id. That the span has units is asked with the peer, since the compiler then tells another peer's span by one comparison.
 #[tactic(auto, unfolding(crate::specs::Spans::offset_of, crate::specs::Spans::gap))]
 pub fn offset_of(row: FugueSpan, o: Option<Id>) -> Option<u32>
     ensures { result ≡ offset_of row o }
 {
     let id = o?;
-    if row.id.peer != id.peer {
+    if row.id.peer != id.peer || row.can_remove() {
         return None;
     }
     let first = counter_of(row.id.counter)?;
