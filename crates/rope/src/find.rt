@@ -10,16 +10,17 @@ use span::span::FugueSpan;
 use span::status::counter_of;
 use store::list::{Row, span_of};
 
-// Which unit of a span has an id. That the span has units is asked with the peer, since the compiler then tells another peer's span by one comparison.
+// Which unit of a span has an id.
 #[tactic(auto, unfolding(crate::specs::Spans::offset_of, crate::specs::Spans::gap))]
 pub fn offset_of(row: FugueSpan, o: Option<Id>) -> Option<u32>
     ensures { result ≡ offset_of row o }
 {
     let id = o?;
-    if row.id.peer != id.peer || row.can_remove() {
+    if row.id.peer != id.peer {
         return None;
     }
-    let first = counter_of(row.id.counter)?;
+    // A counter below zero, which no unit has, stands past every id: with no test of its own, a span of another peer is told by one comparison.
+    let first = counter_of(row.id.counter).unwrap_or(u32::MAX);
     let offset = counter_of(id.counter)?.checked_sub(first)?;
     (offset < row.rle_len()).then_some(offset)
 }
