@@ -19,8 +19,7 @@ pub fn offset_of(row: FugueSpan, o: Option<Id>) -> Option<u32>
     if row.id.peer != id.peer {
         return None;
     }
-    // A counter below zero, which no unit has, stands past every id: with no test of its own, a span of another peer is told by one comparison.
-    let first = counter_of(row.id.counter).unwrap_or(u32::MAX);
+    let first = counter_of(row.id.counter)?;
     let offset = counter_of(id.counter)?.checked_sub(first)?;
     (offset < row.rle_len()).then_some(offset)
 }
